@@ -1,0 +1,1 @@
+// The thirty-two laws: matching a left side and putting a right side in.

@@ -1,0 +1,186 @@
+// Plans: how their words are read and judged, which plans are basic, and how many orders a basic plan allows.
+ghost use mathlib.Core.Path.{_≡_};
+ghost use Prim.Native.Nat.{_≤_};
+ghost use lib.ListN.{length};
+ghost use Rattle.refusals.specs.Refusal.{judged};
+ghost use Rattle.plans.specs.Word.{operands-of, word-of};
+ghost use Rattle.plans.specs.Judging.{plan-refusal, words-refusal};
+ghost use Rattle.plans.specs.Basic.{basic-words?, orders-of};
+use refusals::Judgement;
+use refusals::Place;
+use tables::actions_of;
+use tables::judge_tables;
+
+mod scan;
+mod table;
+mod turns;
+
+// "A plan is 1 to 16,384 bytes".
+const MOST_WORDS: usize = 16384;
+
+// The word of choice, +.
+const CHOICE: u8 = 64;
+
+// The operators of two operands: choice +, sequence ·, merge ‖, left merge ⌊, communication merge |, unless ◁.
+pub enum Binary {
+    Choice,
+    Sequence,
+    Merge,
+    LeftMerge,
+    CommunicationMerge,
+    Unless,
+}
+
+// The operators of one operand: priority θ, and encapsulation ∂ by a set's number.
+pub enum Unary {
+    Priority,
+    Encapsulation(u8),
+}
+
+// What a byte is among the words of plans: an action, an operator of one operand or of two, or no word.
+pub enum Word {
+    Action(u8),
+    One(Unary),
+    Two(Binary),
+    NoWord,
+}
+
+// One word more where so many subplans stand: how many stand then, or the number of the refusal.
+pub enum Turn {
+    Depth(usize),
+    Stop(u8),
+}
+
+// How many operands a byte takes; 3 for a byte that is no word under any count of actions.
+pub fn operands(byte: u8) -> u8
+    ensures whole { λ r. ⌜ r ≡ operands-of byte ⌝ }
+{
+    table::OPERANDS[byte as usize]
+}
+
+// What a byte is under n actions.
+pub fn classify(n: u8, byte: u8) -> Word
+    requires { ⌜ n ≤ 31 ⌝ }
+    ensures whole { λ r. ⌜ r ≡ word-of n byte ⌝ }
+{
+    match byte {
+        0..=31 => {
+            if byte <= n {
+                Word::Action(byte)
+            } else {
+                Word::NoWord
+            }
+        }
+        64 => Word::Two(Binary::Choice),
+        65 => Word::Two(Binary::Sequence),
+        66 => Word::Two(Binary::Merge),
+        67 => Word::Two(Binary::LeftMerge),
+        68 => Word::Two(Binary::CommunicationMerge),
+        69 => Word::Two(Binary::Unless),
+        70 => Word::One(Unary::Priority),
+        80..=87 => Word::One(Unary::Encapsulation(byte - 80)),
+        _ => Word::NoWord,
+    }
+}
+
+// Judges a plan's words under n actions: accepted, or 11 to 14 of document 01.
+pub fn judge_words(n: u8, plan: &[u8]) -> Judgement
+    requires { ⌜ n ≤ 31 ⌝ }
+    ensures whole { λ r. ⌜ r ≡ judged (words-refusal n (now (plan .entry))) ⌝ }
+{
+    if plan.len() == 0 {
+        return turns::refused(11, Place::Nowhere);
+    }
+    if MOST_WORDS < plan.len() {
+        return turns::refused(11, Place::Nowhere);
+    }
+    let mut depth: usize = 0;
+    let mut i: usize = 0;
+    while i < plan.len() {
+        match turns::take_word(n, plan[i], depth) {
+            Turn::Depth(d) => {
+                depth = d;
+            }
+            Turn::Stop(number) => {
+                return turns::refused(number, Place::Byte(i));
+            }
+        }
+        i += 1;
+    }
+    if depth == 1 {
+        Judgement::Accepted
+    } else {
+        turns::refused(14, Place::Nowhere)
+    }
+}
+
+// Judges the tables, 1 to 8 of document 01, then a plan under them, 11 to 14.
+pub fn judge_plan(tables: &[u8], plan: &[u8]) -> Judgement
+    ensures whole { λ r. ⌜ r ≡ judged (plan-refusal (now (tables .entry)) (now (plan .entry))) ⌝ }
+{
+    let judgement = judge_tables(tables);
+    if let Judgement::Refused(_) = judgement {
+        return judgement;
+    }
+    judge_words(actions_of(tables), plan)
+}
+
+// Whether a plan's words are a basic plan under n actions: one kind for each subplan that waits.
+pub fn basic_words(n: u8, plan: &[u8]) -> bool
+    requires { ⌜ (n ≤ 31) × (length (now plan) ≤ 16384) ⌝ }
+    ensures whole { λ r. ⌜ r ≡ basic-words? n (now (plan .entry)) ⌝ }
+{
+    let mut kinds = [scan::NOT_BASIC; MOST_WORDS];
+    let mut depth: usize = 0;
+    let mut i: usize = 0;
+    while i < plan.len() {
+        let word = classify(n, plan[i]);
+        i += 1;
+        match word {
+            Word::Action(a) => {
+                kinds[depth] = scan::action_kind(a);
+                depth += 1;
+            }
+            Word::One(_) => {
+                if depth < 1 {
+                    return false;
+                }
+                kinds[depth - 1] = scan::NOT_BASIC;
+            }
+            Word::Two(o) => {
+                if depth < 2 {
+                    return false;
+                }
+                depth -= 1;
+                kinds[depth - 1] = scan::join_kinds(o, kinds[depth - 1], kinds[depth]);
+            }
+            Word::NoWord => {
+                return false;
+            }
+        }
+    }
+    if depth != 1 {
+        return false;
+    }
+    scan::DEAD_STOP <= kinds[0]
+}
+
+// The orders that a plan allows: one more than its signs of choice where it is basic, else 0.
+pub fn count_orders(n: u8, plan: &[u8]) -> usize
+    requires { ⌜ (n ≤ 31) × (length (now plan) ≤ 16384) ⌝ }
+    ensures whole { λ r. ⌜ r ≡ orders-of n (now (plan .entry)) ⌝ }
+{
+    if !basic_words(n, plan) {
+        return 0;
+    }
+    let mut orders: usize = 1;
+    let mut i: usize = 0;
+    while i < plan.len() {
+        let byte = plan[i];
+        i += 1;
+        if byte == CHOICE {
+            orders += 1;
+        }
+    }
+    orders
+}

@@ -1,0 +1,4 @@
+mod Searching
+mod Answers
+mod Passing
+pub mod Lawful

@@ -1,0 +1,2 @@
+mod Ground
+mod Meaning

@@ -1,0 +1,1 @@
+// Trees of plans, and when two are alike: definitions in specs/, theorems in proofs/, no function.
