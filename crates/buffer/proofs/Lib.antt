@@ -1,0 +1,4 @@
+pub mod Starts
+pub mod Whole
+mod NextWord
+mod Putting

@@ -1,0 +1,189 @@
+-- Laws of a plan held as a gap buffer: its parts, the gap moved by a word, and a step made at the gap.
+use Prim.Native.Nat.{ℕ, suc, _+_, _-_, _≤_, _<_}
+use native.Mathlib.Omega.{arith}
+use native.Mathlib.Numerals.{add-one}
+use mathlib.Core.Path.{_≡_, refl, ap, sym, _∙_, subst}
+use mathlib.Core.List.{List, [], _∷_, _++_, append-assoc}
+use mathlib.Core.Option.{some}
+use lib.ListN.{length, getD, set, take, drop, length-append, length-drop, length-set}
+use lib.Seq.{length-take-le, take-at, drop-at, take-suc, drop-cons, take-append-le, take-add, take-take, take-suc-set, set-split, getD-set-same, getD-set-other}
+use borrow.Author.Tests.{ne-eqb}
+use borrow.Author.Count.{below-more}
+use Rattle.areas.specs.Area.{overwrite}
+use Rattle.areas.proofs.Area.{drop-overwrite, overwrite-length}
+use Rattle.plans.specs.Term.{Term, words}
+use Rattle.plans.specs.Place.{subterm, replace}
+use Rattle.plans.specs.Start.{start-of}
+use Rattle.buffer.specs.declared.State.{State}
+use Rattle.buffer.specs.Buffer.{whole, Held, stepped, before, Undoable}
+use Rattle.buffer.specs.Moves.{Gap, Shifted}
+use Rattle.plans.proofs.Start.{start-prefix, start-take}
+
+pub held-gap : {n : ℕ} {left starts right : List ℕ} {read rest : ℕ} → Held n left starts right read rest → Gap left right read rest
+held-gap h = record { left-long = h .left-long; right-long = h .right-long; rest-in = h .rest-in; apart = h .apart }
+
+-- nothing is read of a plan just loaded
+pub held-loaded : (n : ℕ) (left starts right : List ℕ) (rest : ℕ) → length left ≡ 16384 → length starts ≡ 16384 → length right ≡ 16384 → rest ≤ 16384
+    → Held n left starts right 0 rest
+held-loaded n left starts right rest a b c d =
+    record {
+      left-long = a;
+      starts-long = b;
+      right-long = c;
+      rest-in = d;
+      apart = omega arith;
+      starts-right = λ k h. absurd (omega arith);
+    }
+
+-- fewer words read, and any rest behind them
+pub held-fewer : (n : ℕ) (left starts right right′ : List ℕ) (read rest read′ rest′ : ℕ) → Held n left starts right read rest
+    → length right′ ≡ 16384 → read′ ≤ read → read′ ≤ rest′ → rest′ ≤ 16384 → Held n left starts right′ read′ rest′
+held-fewer n left starts right right′ read rest read′ rest′ h long fewer apart within =
+    record {
+      left-long = h .left-long;
+      starts-long = h .starts-long;
+      right-long = long;
+      rest-in = within;
+      apart = apart;
+      starts-right = λ k l. h .starts-right k (omega arith) ∙ sym (same k l);
+    }
+  where
+    same : (k : ℕ) → k < read′ → start-of n (take read′ left) k ≡ start-of n (take read left) k
+    same k l =
+        start-take n left read′ k (omega arith) l ∙ sym (start-take n left read k (omega arith) (omega arith))
+
+-- one word fewer read, and one more in the rest
+pub held-back : (n : ℕ) (left starts right right′ : List ℕ) (read rest : ℕ) → Held n left starts right read rest → length right′ ≡ length right → 1 ≤ read
+    → Held n left starts right′ (read - 1) (rest - 1)
+held-back n left starts right right′ read rest h long some-read =
+    held-fewer n left starts right right′ read rest (read - 1) (rest - 1) h (long ∙ h .right-long) (omega arith) (omega arith) (omega arith)
+
+-- the parts of the plan
+module _ (left right : List ℕ) (read rest : ℕ) (g : Gap left right read rest) where
+  pub read-long : length (take read left) ≡ read
+  read-long = length-take-le read left (omega arith)
+
+  pub whole-length : length (whole left right read rest) ≡ read + (16384 - rest)
+  unfolding whole
+  whole-length = rw (length-append (take read left) (drop rest right), read-long, length-drop rest right, g .right-long) refl
+
+  pub take-whole : take read (whole left right read rest) ≡ take read left
+  unfolding whole
+  take-whole = take-at (take read left) (drop rest right) read read-long
+
+  pub drop-whole : drop read (whole left right read rest) ≡ drop rest right
+  unfolding whole
+  drop-whole = drop-at (take read left) (drop rest right) read read-long
+
+  -- up to a place among the words read
+  pub take-read : (k : ℕ) → k ≤ read → take k (whole left right read rest) ≡ take k left
+  unfolding whole
+  take-read k h = take-append-le k (take read left) (drop rest right) (omega (arith, read-long)) ∙ take-take k read left h
+
+  -- the start of a word read goes by the words read
+  pub start-whole : (n k : ℕ) → k < read → start-of n (whole left right read rest) k ≡ start-of n (take read left) k
+  start-whole n k h =
+      sym (start-take n (whole left right read rest) read k (omega (arith, whole-length)) h) ∙ ap (λ l. start-of n l k) take-whole
+
+-- the gap moved by a word
+pub forward-whole : (left right : List ℕ) (read rest : ℕ) → Gap left right read rest → rest < 16384
+    → whole (set left read (getD right rest 0)) right (read + 1) (rest + 1) ≡ whole left right read rest
+unfolding whole
+forward-whole left right read rest g more =
+    let w = getD right rest 0 in
+    rw (add-one read, add-one rest, take-suc-set left read w (omega arith), drop-cons right rest 0 (omega arith))
+    (append-assoc (take read left) (w ∷ []) (drop (suc rest) right))
+
+back-suc : (left right : List ℕ) (i j : ℕ) → i < length left → j < length right
+    → take i left ++ drop j (set right j (getD left i 0)) ≡ take (suc i) left ++ drop (suc j) right
+back-suc left right i j h l =
+    let w = getD left i 0 in
+    rw (set-split right j w l, drop-at (take j right) (w ∷ drop (suc j) right) j (length-take-le j right (omega arith)), take-suc left i 0 h)
+    (sym (append-assoc (take i left) (w ∷ []) (drop (suc j) right)))
+
+pub back-whole : (left right : List ℕ) (read rest : ℕ) → Gap left right read rest → 1 ≤ read
+    → whole left (set right (rest - 1) (getD left (read - 1) 0)) (read - 1) (rest - 1) ≡ whole left right read rest
+unfolding whole
+back-whole left right read rest g some-read =
+    let a : suc (read - 1) ≡ read = omega arith in
+    let b : suc (rest - 1) ≡ rest = omega arith in
+    rw (a, b) at (back-suc left right (read - 1) (rest - 1) (omega arith) (omega arith))
+
+pub held-forward : (n : ℕ) (left starts right : List ℕ) (read rest w at : ℕ) → Held n left starts right read rest → rest < 16384
+    → at ≡ start-of n (take read left ++ (w ∷ [])) read → Held n (set left read w) (set starts read at) right (read + 1) (rest + 1)
+held-forward n left starts right read rest w at h more e =
+    record {
+      left-long = length-set left read w ∙ h .left-long;
+      starts-long = length-set starts read at ∙ h .starts-long;
+      right-long = h .right-long;
+      rest-in = omega arith;
+      apart = omega arith;
+      starts-right = λ k l. rw (add-one read, take-suc-set left read w (omega arith)) (below-more _ _ earlier here k l);
+    }
+  where
+    here : getD (set starts read at) read 0 ≡ start-of n (take read left ++ (w ∷ [])) read
+    here = getD-set-same starts read at 0 (omega arith) ∙ e
+
+    earlier : (k : ℕ) → k < read → getD (set starts read at) k 0 ≡ start-of n (take read left ++ (w ∷ [])) k
+    earlier k l =
+        getD-set-other starts read k at 0 (λ q. omega arith)
+        ∙ h .starts-right k l
+        ∙ sym (start-prefix n (take read left) (w ∷ []) k (omega (arith, read-long left right read rest (held-gap h))))
+
+-- a step at the gap: the words `side` were written in front of the rest, and take the place of the words read from `start` on
+module _ (left right side : List ℕ) (read rest start : ℕ) (g : Gap left right read rest) (within : start ≤ read) (room : start + length side ≤ rest) where
+  pub step-whole : whole left (overwrite right (rest - length side) side) start (rest - length side) ≡ take start left ++ (side ++ drop rest right)
+  unfolding whole
+  step-whole =
+      let e : rest - length side + length side ≡ rest = omega arith in
+      rw (drop-overwrite right (rest - length side) side (omega arith), e) refl
+
+  pub step-length : length (take start left ++ (side ++ drop rest right)) ≡ start + length side + (16384 - rest)
+  step-length =
+      rw (length-append (take start left) (side ++ drop rest right), length-append side (drop rest right), length-take-le start left (omega arith), length-drop rest right, g .right-long)
+      (omega arith)
+
+  pub held-step : (n : ℕ) (starts : List ℕ) → Held n left starts right read rest
+      → Held n left starts (overwrite right (rest - length side) side) start (rest - length side)
+  held-step n starts h =
+      held-fewer n left starts right (overwrite right (rest - length side) side) read rest start (rest - length side) h
+      (overwrite-length right (rest - length side) side (omega arith) ∙ g .right-long) within (omega arith) (omega arith)
+
+  -- the words that the step took away, put back
+  module _ (s : State) (old : List ℕ) (rest′ : ℕ) (kept : take (read - start) old ≡ take (read - start) (drop start left)) where
+    pub before-step : before (stepped s start (read - start) (length side) rest′) (take start left ++ (side ++ drop rest right)) old ≡ whole left right read rest
+    unfolding before whole
+    before-step =
+        let ts = take start left in
+        let l : length ts ≡ start = length-take-le start left (omega arith) in
+        let a : take start (ts ++ (side ++ drop rest right)) ≡ ts = take-at ts (side ++ drop rest right) start l in
+        let b : drop (start + length side) (ts ++ (side ++ drop rest right)) ≡ drop rest right =
+        rw (← append-assoc ts side (drop rest right)) (drop-at (ts ++ side) (drop rest right) (start + length side) (rw (length-append ts side, l) refl)) in
+        let c : start + (read - start) ≡ read = omega arith in
+        rw (ne-eqb (s .steps + 1) 0 (λ e. omega arith), a, b, kept, ← append-assoc ts (take (read - start) (drop start left)) (drop rest right), ← take-add start (read - start) left, c) refl
+
+    pub undoable-step : (c : ℕ) → length old ≡ 16384 → length (whole left right read rest) ≤ c
+        → Undoable (stepped s start (read - start) (length side) rest′) (take start left ++ (side ++ drop rest right)) old c
+    undoable-step c long fits =
+        record {
+          old-long = long;
+          old-in = omega arith;
+          new-in = rw step-length (omega arith);
+          before-fits = rw before-step fits;
+        }
+
+-- a step at the last word read replaces the subplan there
+pub replace-whole : (left right : List ℕ) (read rest : ℕ) → Gap left right read rest → (n p : ℕ) (t u : Term) → suc p ≡ read
+    → subterm n (whole left right read rest) p ≡ some t
+    → replace (whole left right read rest) p t u ≡ take (start-of n (whole left right read rest) p) left ++ (words u ++ drop rest right)
+unfolding replace start-of
+replace-whole left right read rest g n p t u e q =
+    rw (q, take-read left right read rest g (suc p - length (words t)) (omega arith), e, drop-whole left right read rest g) refl
+
+-- the same said of the state that a move answers
+module _ {left right left′ right′ : List ℕ} {s r : State} {read rest : ℕ} (m : Shifted left right left′ right′ s r read rest) where
+  pub shifted-plan : whole left′ right′ (r .read) (r .rest) ≡ whole left right (s .read) (s .rest)
+  shifted-plan = subst (λ q. whole left′ right′ (q .read) (q .rest) ≡ whole left right (s .read) (s .rest)) (sym (m .state)) (m .plan)
+
+  pub shifted-held : {n : ℕ} {starts : List ℕ} → Held n left′ starts right′ read rest → Held n left′ starts right′ (r .read) (r .rest)
+  shifted-held {n} {starts} h = subst (λ q. Held n left′ starts right′ (q .read) (q .rest)) (sym (m .state)) h

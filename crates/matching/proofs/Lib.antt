@@ -1,0 +1,11 @@
+mod Same
+mod Table
+pub mod Stack
+mod Fitting
+mod Matching
+mod Building
+pub mod Sides
+mod Rewriting
+pub mod Choosing
+mod LawTables
+mod Writing

@@ -1,0 +1,63 @@
+-- Tables of the code as the definitions have them, shown by tests that antt computes.
+use Prim.Native.Nat.{ℕ, suc, zero, _-_, _≤_, _<_}
+use mathlib.Core.Path.{_≡_, refl}
+use mathlib.Core.Bool.{Bool, true, false, _&&_, and-eq-true-iff}
+use mathlib.Core.List.{List}
+use native.Mathlib.Omega.{arith}
+use lib.ListN.{length, getD}
+use lib.Dec.{eqb, leb}
+use borrow.Author.Tests.{leb-true, eqb-true, eqb-false}
+use Rattle.laws.specs.Laws.{same-bytes}
+use Rattle.matching.specs.Check.{part}
+use Rattle.matching.proofs.Same.{same-equal}
+
+pub and-left : (a b : Bool) → a && b ≡ true → a ≡ true
+and-left a b e = and-eq-true-iff a b .0 e .0
+
+pub and-right : (a b : Bool) → a && b ≡ true → b ≡ true
+and-right a b e = and-eq-true-iff a b .0 e .1
+
+-- a test passes at each of the first m numbers
+abbrev pub passes : (ℕ → Bool) → ℕ → Bool
+passes f zero = true
+passes f (suc m) = f m && passes f m
+
+pub passed : (f : ℕ → Bool) (m : ℕ) → passes f m ≡ true → (k : ℕ) → k < m → f k ≡ true
+passed f zero e k h = absurd (omega arith)
+passed f (suc m) e k h = go (eqb k m) refl (λ l. passed f m (and-right (f m) (passes f m) e) k l)
+  where
+    low : (k ≡ m → ⊥) → k < m
+    low d = omega arith
+
+    go : (b : Bool) → eqb k m ≡ b → (k < m → f k ≡ true) → f k ≡ true
+    go true q r = rw (eqb-true k m q) (and-left (f m) (passes f m) e)
+    go false q r = r (low (eqb-false k m q))
+
+-- A table of words, cut at places: the part before the cut of each law is its side.
+module _ (table cuts : List ℕ) (side : ℕ → List ℕ) where
+  abbrev pub cut-right : ℕ → Bool
+  cut-right k =
+      leb (getD cuts k 0) (getD cuts (suc k) 0)
+      && (leb (getD cuts (suc k) 0) (length table) && same-bytes (part (getD cuts k 0) (getD cuts (suc k) 0) table) (side (suc k)))
+
+  pub record Cut (law : ℕ) : Type 0 where
+    pub order : getD cuts (law - 1) 0 ≤ getD cuts law 0
+    pub within : getD cuts law 0 ≤ length table
+    pub same : part (getD cuts (law - 1) 0) (getD cuts law 0) table ≡ side law
+
+  cut-after : (k : ℕ) → cut-right k ≡ true → Cut (suc k)
+  cut-after k r =
+      let e : suc k - 1 ≡ k = omega arith in
+      let a = getD cuts k 0 in
+      let b = getD cuts (suc k) 0 in
+      let s = same-bytes (part a b table) (side (suc k)) in
+      let t : leb b (length table) && s ≡ true = and-right (leb a b) (leb b (length table) && s) r in
+      record {
+        order = rw e (leb-true a b (and-left (leb a b) (leb b (length table) && s) r));
+        within = leb-true b (length table) (and-left (leb b (length table)) s t);
+        same = rw e (same-equal _ _ (and-right (leb b (length table)) s t));
+      }
+
+  pub cut : passes cut-right 32 ≡ true → (law : ℕ) → 1 ≤ law → law ≤ 32 → Cut law
+  cut e zero h l = absurd (omega arith)
+  cut e (suc k) h l = cut-after k (passed cut-right 32 e k (omega arith))

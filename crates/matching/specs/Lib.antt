@@ -1,0 +1,5 @@
+pub mod Start
+pub mod Left
+pub mod Check
+pub mod Right
+pub mod Choice

@@ -1,0 +1,120 @@
+// The thirty-two laws in code: whether a law fits at a plan's last word, the lowest law that fits there, and its right side written out.
+// A layer for the crates above: its functions ask that the words can be read and that the starts of their subplans are right.
+// Letters are noted in two arrays of seven: x, y, z, a, b and the set of ∂ reach from from[k] up to to[k], and signs write to the seventh.
+mod condition;
+mod left;
+mod right;
+
+ghost use mathlib.Core.Path.{_≡_};
+ghost use Prim.Native.Nat.{_+_, _≤_, _<_};
+ghost use lib.ListN.{length};
+ghost use Rattle.areas.specs.Area.{overwrite};
+ghost use Rattle.matching.specs.Start.{Ready};
+ghost use Rattle.matching.specs.Right.{spelled-law, law-size, Reaches};
+ghost use Rattle.matching.specs.Choice.{law-term, Tried, first-term, Chosen, laws-of};
+
+// Tries a law at the last word. If it fits, its letters reach over the plan's words between from and to.
+pub fn law_fits(
+    law: u8,
+    tables: &[u8],
+    n: u8,
+    plan: &[u8],
+    starts: &[u16],
+    from: &mut [u16],
+    to: &mut [u16],
+) -> bool
+    requires { ⌜ (1 ≤ law) × (law ≤ 32) ⌝ }
+    requires { ⌜ Ready n (now plan) (now starts) × Reaches (now plan) (now from) (now to) ⌝ }
+    ensures { λ r. ⌜ Tried (now (tables .entry)) law (now (plan .entry)) (now (from .exit)) (now (to .exit)) (law-term (now (tables .entry)) n law (now (plan .entry))) r ⌝ }
+    ensures { λ r. ⌜ Reaches (now (plan .entry)) (now (from .exit)) (now (to .exit)) ⌝ }
+{
+    if left::match_left(law, n, plan, starts, &mut *from, &mut *to) {
+        condition::holds(law, tables, plan, &*from, &*to)
+    } else {
+        false
+    }
+}
+
+// The laws from the lowest to the highest of a range; none where high is below low.
+struct Range {
+    low: u8,
+    high: u8,
+}
+
+// The laws of 5 to 32 whose left sides may end in a word: those with its sign at the root, and none for an action.
+fn laws_of(word: u8) -> Range
+    ensures { λ r. ⌜ r ≡ laws-of word ⌝ }
+{
+    match word {
+        64 => Range { low: 7, high: 8 },
+        65 => Range { low: 5, high: 9 },
+        66 => Range { low: 11, high: 11 },
+        67 => Range { low: 12, high: 14 },
+        68 => Range { low: 10, high: 19 },
+        69 => Range { low: 24, high: 29 },
+        70 => Range { low: 30, high: 32 },
+        80..=87 => Range { low: 20, high: 23 },
+        _ => Range { low: 5, high: 4 },
+    }
+}
+
+// The lowest of laws 5 to 32 that fits at the last word, or 0.
+pub fn first_law(
+    tables: &[u8],
+    n: u8,
+    plan: &[u8],
+    starts: &[u16],
+    from: &mut [u16],
+    to: &mut [u16],
+) -> u8
+    requires { ⌜ Ready n (now plan) (now starts) × Reaches (now plan) (now from) (now to) ⌝ }
+    ensures { λ r. ⌜ Chosen (now (tables .entry)) (now (plan .entry)) (now (from .exit)) (now (to .exit)) (first-term (now (tables .entry)) n (now (plan .entry))) r ⌝ }
+    ensures { λ r. ⌜ Reaches (now (plan .entry)) (now (from .exit)) (now (to .exit)) ⌝ }
+{
+    let range = laws_of(plan[plan.len() - 1]);
+    let high = range.high;
+    let mut law: u8 = range.low;
+    while law <= high {
+        if law_fits(law, tables, n, plan, starts, &mut *from, &mut *to) {
+            return law;
+        }
+        law += 1;
+    }
+    0
+}
+
+// How many words the right side of a law comes to.
+pub fn right_len(law: u8, from: &[u16], to: &[u16]) -> usize
+    requires { ⌜ (1 ≤ law) × (law ≤ 32) × (length (now from) ≡ 7) × (length (now to) ≡ 7) ⌝ }
+    ensures { λ r. ⌜ r ≡ law-size law (now (from .entry)) (now (to .entry)) ⌝ }
+{
+    let table = right::RIGHT;
+    let i = law as usize;
+    let a = right::RIGHT_AT[i - 1] as usize;
+    let b = right::RIGHT_AT[i] as usize;
+    right::words_len(&table[a..b], from, to)
+}
+
+// Writes out the right side of a law from a place on; the place after it.
+pub fn put_side(
+    law: u8,
+    tables: &[u8],
+    plan: &[u8],
+    from: &[u16],
+    to: &[u16],
+    dst: &mut [u8],
+    at: usize,
+) -> usize
+    requires { ⌜ (1 ≤ law) × (law ≤ 32) × Reaches (now plan) (now from) (now to) ⌝ }
+    requires { ⌜ at + length (spelled-law (now tables) law (now plan) (now from) (now to)) ≤ length (now dst) ⌝ }
+    ensures { λ r. ⌜ (now (dst .exit) ≡ overwrite (now (dst .entry)) at (spelled-law (now (tables .entry)) law (now (plan .entry)) (now (from .entry)) (now (to .entry)))) × (r ≡ at + length (spelled-law (now (tables .entry)) law (now (plan .entry)) (now (from .entry)) (now (to .entry)))) ⌝ }
+{
+    let a = condition::word_at(plan, from, 3);
+    let b = condition::word_at(plan, from, 4);
+    let entry = tables::communication_of(tables, a, b);
+    let table = right::RIGHT;
+    let i = law as usize;
+    let low = right::RIGHT_AT[i - 1] as usize;
+    let high = right::RIGHT_AT[i] as usize;
+    right::put_words(&table[low..high], entry, plan, from, to, dst, at)
+}

@@ -1,0 +1,8 @@
+pub mod Finding
+pub mod Choosing
+pub mod Prefixes
+pub mod Making
+pub mod Seeking
+mod Putting
+mod Scanning
+mod Trying

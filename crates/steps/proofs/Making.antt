@@ -1,0 +1,117 @@
+-- A step made at the last word read: the plan under work is then the next plan, and the plan before it can be put together again.
+use Prim.Native.Nat.{ℕ, suc, zero, _+_, _-_, _≤_, _<_}
+use native.Mathlib.Omega.{arith}
+use native.Mathlib.Numerals.{add-one}
+use mathlib.Core.Path.{_≡_, refl, sym, _∙_, ap, subst}
+use mathlib.Core.Bool.{Bool, true, false, not}
+use mathlib.Core.List.{List, [], _∷_, _++_}
+use mathlib.Core.Option.{Option, none, some}
+use lib.ListN.{length, getD, take, drop, length-append, length-drop}
+use lib.Seq.{length-take-le, take-take, drop-at}
+use Rattle.areas.specs.Area.{overwrite}
+use Rattle.tables.specs.Tables.{Tables, actions}
+use Rattle.tables.specs.Lawful.{Lawful}
+use Rattle.plans.specs.Term.{Term, words}
+use Rattle.plans.specs.Judging.{words-refusal}
+use Rattle.plans.specs.Start.{start-of}
+use Rattle.laws.specs.Step.{step}
+use Rattle.laws.proofs.Stepping.{step-alike}
+use Rattle.matching.specs.Right.{spelled-law, Reaches}
+use Rattle.plans.proofs.Start.{start-below}
+use Rattle.buffer.specs.declared.State.{State}
+use Rattle.buffer.specs.Areas.{even?}
+use Rattle.buffer.specs.Buffer.{whole, Held, moved, stepped, before, Undoable}
+use Rattle.buffer.specs.Moves.{Gap}
+use Rattle.buffer.proofs.Whole.{held-gap, whole-length, take-whole, drop-whole, step-whole, step-length, held-step, before-step, undoable-step}
+use Rattle.steps.specs.Working.{plan-in, Working, Kept, Same, Next, start-here, side-here, next-here, PutIn, too-long, put-in}
+use Rattle.steps.specs.declared.Made.{Made}
+use Rattle.steps.specs.declared.Made.the-variants.{Step, TooLong}
+use Rattle.steps.proofs.Prefixes.{put-last}
+
+-- the plan by its words read and its words behind
+pub plan-split : (left right : List ℕ) (s : State) → plan-in left right s ≡ take (s .read) left ++ drop (s .rest) right
+unfolding whole
+plan-split left right s = refl
+
+module _ (t : Tables) (left starts right : List ℕ) (s : State) (work : Working t left starts right s) where
+  pub gap : Gap left right (s .read) (s .rest)
+  gap = held-gap (work .held)
+
+  pub read-long : length (take (s .read) left) ≡ s .read
+  read-long = length-take-le (s .read) left (omega (arith, gap .left-long, gap .apart, gap .rest-in))
+
+  pub plan-long : length (plan-in left right s) ≡ s .read + (16384 - s .rest)
+  plan-long = whole-length left right (s .read) (s .rest) gap
+
+  -- where the subplan at the last word read starts
+  pub start-is : 1 ≤ s .read → start-here starts s ≡ start-of (actions t) (take (s .read) left) (s .read - 1)
+  start-is h = work .held .starts-right (s .read - 1) (omega arith)
+
+  pub start-before : 1 ≤ s .read → start-here starts s < s .read
+  start-before h = omega (arith, start-is h, start-below (actions t) (take (s .read) left) (s .read - 1))
+
+  -- the plan with a right side put in at the last word read
+  pub next-is : (v : List ℕ) → 1 ≤ s .read
+      → take (start-here starts s) left ++ (v ++ drop (s .rest) right) ≡ put-last (actions t) (take (s .read) left) (drop (s .rest) right) v
+  next-is v h =
+      let l : take (start-here starts s) (take (s .read) left) ≡ take (start-here starts s) left = take-take (start-here starts s) (s .read) left (omega (arith, start-before h)) in
+      rw (read-long, ← start-is h, l)
+
+  -- how many words it has
+  pub next-long : (v : List ℕ) → 1 ≤ s .read
+      → length (take (start-here starts s) left ++ (v ++ drop (s .rest) right)) ≡ start-here starts s + (length v + (16384 - s .rest))
+  next-long v h =
+      let st = start-here starts s in
+      rw (
+        length-append (take st left) (v ++ drop (s .rest) right),
+        length-append v (drop (s .rest) right),
+        length-take-le st left (omega (arith, start-before h, gap .left-long, gap .apart, gap .rest-in)),
+        length-drop (s .rest) right,
+        gap .right-long,
+      )
+
+-- the states differ in where the gap stands alone
+pub kept-moved : (c : ℕ) (plan old : List ℕ) (s s′ : State) → s′ ≡ moved s (s′ .read) (s′ .rest) → Kept c plan old s → Kept c plan old s′
+unfolding before
+kept-moved c plan old s s′ e k = subst (Kept c plan old) (sym e) (record { undoable = record { old-long = k .undoable .old-long; old-in = k .undoable .old-in; new-in = k .undoable .new-in; before-fits = k .undoable .before-fits }; short = k .short; parity = k .parity })
+
+pub before-moved : (plan old : List ℕ) (s s′ : State) → s′ ≡ moved s (s′ .read) (s′ .rest) → before s′ plan old ≡ before s plan old
+unfolding before
+before-moved plan old s s′ e = subst (λ (z : State). before z plan old ≡ before s plan old) (sym e) refl
+
+-- the step made
+module _ (t : Tables) (ok : Lawful t) (law c : ℕ) (left starts right old f g right′ old′ : List ℕ) (s : State) (most : c ≤ 16384) (work : Working t left starts right s)
+    (fits-c : length (plan-in left right s) ≤ c) (parity : s .even ≡ even? (s .steps)) (read-some : 1 ≤ s .read) (w : List ℕ)
+    (is-next : next-here t law left starts right f g s ≡ w) (k p : ℕ) (stepping : step t k p (plan-in left right s) ≡ some w) where
+  accepted-next : length w ≤ 16384 → words-refusal (actions t) w ≡ none
+  accepted-next l = step-alike t ok k p (plan-in left right s) w (work .accepted) stepping .1 l
+
+  even-next : not (s .even) ≡ even? (s .steps + 1)
+  unfolding even?
+  even-next = rw (add-one (s .steps), parity)
+
+  pub made-next : (s′ : State) → PutIn t law c left starts right old f g right′ old′ s (Step s′) → Next t c left right left starts right′ old′ s s′ w
+  made-next s′ (put-in short-next written kept-words old-long) =
+      let st = start-here starts s in
+      let sd = side-here t law left f g s in
+      let h = gap t left starts right s work in
+      let le : st ≤ s .read = omega (arith, start-before t left starts right s work read-some) in
+      let room : st + length sd ≤ s .rest = omega (arith, next-long t left starts right s work sd read-some, h .rest-in, most) in
+      let e : plan-in left right′ s′ ≡ w = rw written (step-whole left right sd (s .read) (s .rest) st h le room ∙ is-next) in
+      let lw : length w ≤ c = rw is-next at short-next in
+      record {
+        working =
+            record {
+              held = rw written (held-step left right sd (s .read) (s .rest) st h le room (actions t) starts (work .held));
+              accepted = rw e (accepted-next (omega arith));
+            };
+        kept =
+            record {
+              undoable = rw (← is-next) (undoable-step left right sd (s .read) (s .rest) st h le room s old′ (s .rest - length sd) kept-words c old-long fits-c);
+              short = lw;
+              parity = even-next;
+            };
+        next-plan = e;
+        next-before = rw (← is-next) (before-step left right sd (s .read) (s .rest) st h le room s old′ (s .rest - length sd) kept-words);
+        next-steps = refl;
+      }

@@ -1,0 +1,52 @@
+-- The gap moved word by word: the plan under work stays what it was, and the rest of the state too.
+use Prim.Native.Nat.{ℕ, _+_, _-_, _≤_, _<_}
+use native.Mathlib.Omega.{arith}
+use mathlib.Core.Path.{_≡_, refl, sym, _∙_, ap, subst}
+use mathlib.Core.List.{List}
+use mathlib.Core.Option.{none}
+use lib.ListN.{length}
+use Rattle.tables.specs.Tables.{Tables, actions}
+use Rattle.plans.specs.Judging.{words-refusal}
+use Rattle.buffer.specs.declared.State.{State}
+use Rattle.buffer.specs.Buffer.{whole, Held, moved}
+use Rattle.buffer.specs.Moves.{Shifted}
+use Rattle.buffer.proofs.Whole.{shifted-plan, shifted-held}
+use Rattle.steps.specs.Working.{plan-in, Working, Same}
+use Rattle.steps.proofs.Making.{gap, plan-long}
+
+pub same-start : (t : Tables) (left starts right : List ℕ) (s : State) → Working t left starts right s → Same t left starts right left starts right s s
+same-start t left starts right s w = record { working = w; same-plan = refl; same-step = refl }
+
+-- one word more or fewer is read
+module _ (t : Tables) (left starts right left₁ starts₁ right₁ : List ℕ) (s g : State) (m : Same t left starts right left₁ starts₁ right₁ s g)
+    (left₂ starts₂ right₂ : List ℕ) (r : State) (read rest : ℕ) (f : Shifted left₁ right₁ left₂ right₂ g r read rest) where
+  same-moved : r ≡ moved s (r .read) (r .rest)
+  same-moved =
+      subst (λ (z : State). z ≡ moved s (z .read) (z .rest)) (sym (f .state))
+      (subst (λ (z : State). moved z read rest ≡ moved s read rest) (sym (m .same-step)) refl)
+
+  pub same-on : Held (actions t) left₂ starts₂ right₂ read rest → Same t left starts right left₂ starts₂ right₂ s r
+  same-on h =
+      record {
+        working = record { held = shifted-held f h; accepted = rw (shifted-plan f) (m .working .accepted) };
+        same-plan = shifted-plan f ∙ m .same-plan;
+        same-step = same-moved;
+      }
+
+-- the words at a place before the end are not all read: one is left
+pub rest-left : (t : Tables) (left starts right left₁ starts₁ right₁ : List ℕ) (s g : State) → Same t left starts right left₁ starts₁ right₁ s g
+    → (place : ℕ) → place < length (plan-in left right s) → g .read ≤ place → g .rest < 16384
+rest-left t left starts right left₁ starts₁ right₁ s g m place h l =
+    let e : g .read + (16384 - g .rest) ≡ length (plan-in left right s) = sym (plan-long t left₁ starts₁ right₁ g (m .working)) ∙ ap length (m .same-plan) in
+    omega (arith, e, h, l)
+
+-- the number of actions as a value
+module _ (t : Tables) (n : ℕ) (count : n ≡ actions t) (left starts right : List ℕ) where
+  pub count-held : (s : State) → Working t left starts right s → Held n left starts right (s .read) (s .rest)
+  count-held s w = rw count (w .held)
+
+  pub count-accepted : (s : State) → Working t left starts right s → words-refusal n (whole left right (s .read) (s .rest)) ≡ none
+  count-accepted s w = rw count (w .accepted)
+
+  pub held-count : (read rest : ℕ) → Held n left starts right read rest → Held (actions t) left starts right read rest
+  held-count read rest h = rw (← count) h

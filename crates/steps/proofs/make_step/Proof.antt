@@ -1,0 +1,197 @@
+-- One step of a rewriting: the word at the place is sought, the law tried there, and its right side put in.
+use native.Mathlib.Omega.{arith}
+use borrow.Author.Needs.{needs}
+use mathlib.Core.Path.{_≡_, refl, sym, _∙_, ap}
+use lib.ListN.{take}
+use lib.Seq.{length-take-le}
+use Rattle.matching.proofs.Sides.{reaches-zeros}
+use Rattle.buffer.specs.declared.State.{State}
+use Rattle.steps.proofs.Making.{plan-long}
+use Rattle.steps.proofs.Scanning.{ready}
+use Rattle.steps.proofs.Trying.{answer-past, answer-fails, answer-long, answer-done}
+use Rattle.steps.proofs.make_step.Statement.{statement}
+use Rattle.steps.proofs.make_step.Tie as tie
+
+-- from the place behind the search to the start
+abbrev entry : tie.After-seek → tie.Start
+entry c = c .before .before .before .before .before .before .before .before .before .before .before .before
+
+-- from the law tried to the search, and from the right side put in to the law tried
+abbrev sought : tie.After-law-fits → tie.After-seek
+sought c = c .before .before .before .before .before .before .before .before .before .before .before
+
+abbrev tried : tie.After-put-in → tie.After-law-fits
+tried c = c .before .before .before .before .before .before .before .before .before .before
+
+sub-size : tie.Need-sub-size
+sub-size c = c .before .before .before .before .before .before .pre .1 .1 .0 .held .rest-in
+
+add-size : tie.Need-add-size
+add-size c = let h = c .before .before .before .before .before .before .before .pre .1 .1 .0 .held in omega (arith, h .rest-in, h .apart)
+
+returns : tie.Need-returns
+returns c =
+    let k = c .before .before .before .before .before .before .before .before in
+    let a = k .args in
+    let e = plan-long (a .tables .now) (a .left .now) (a .starts .now) (a .right .now) (a .state) (k .pre .1 .1 .0) in
+    answer-past (a .tables .now) (a .law) (a .place) (a .limit) (a .left .now) (a .starts .now) (a .right .now) (a .old .now) (a .state) (k .pre .1 .1 .0) (omega (arith, e, c .if1 .taken))
+
+seek-requires : tie.Need-seek-requires
+seek-requires c κs =
+    let k = c .before .before .before .before .before .before .before .before .before .before .before in
+    let a = k .args in
+    let e = plan-long (a .tables .now) (a .left .now) (a .starts .now) (a .right .now) (a .state) (k .pre .1 .1 .0) in
+    (k .pre .0 .0, omega (arith, k .pre .0 .0, k .pre .0 .1 .well-formed .few-actions), k .pre .1 .1 .0, omega (arith, e, c .before .before .before .if1 .left))
+
+slice-reshare-prefix-law-fits : tie.Need-slice-reshare-prefix-law-fits
+slice-reshare-prefix-law-fits c = let h = c .before .before .before .before .before .before .seek .ensures .0 .working .held in omega (arith, h .left-long, h .apart, h .rest-in)
+
+slice-aggregate-law-fits : tie.Need-slice-aggregate-law-fits
+slice-aggregate-law-fits c = let h = c .before .before .before .before .before .before .before .seek .ensures .0 .working .held in sym (length-take-le _ _ (omega (arith, h .left-long, h .apart, h .rest-in)))
+
+slice-reshare-prefix-law-fits-2 : tie.Need-slice-reshare-prefix-law-fits-2
+slice-reshare-prefix-law-fits-2 c = let h = c .before .before .before .before .before .before .before .seek .ensures .0 .working .held in omega (arith, h .starts-long, h .apart, h .rest-in)
+
+slice-aggregate-law-fits-2 : tie.Need-slice-aggregate-law-fits-2
+slice-aggregate-law-fits-2 c = let h = c .before .before .before .before .before .before .before .before .seek .ensures .0 .working .held in sym (length-take-le _ _ (omega (arith, h .starts-long, h .apart, h .rest-in)))
+
+slice-aggregate-law-fits-3 : tie.Need-slice-aggregate-law-fits-3
+slice-aggregate-law-fits-3 c = refl
+
+slice-aggregate-law-fits-4 : tie.Need-slice-aggregate-law-fits-4
+slice-aggregate-law-fits-4 c = refl
+
+law-fits-requires : tie.Need-law-fits-requires
+law-fits-requires c κs =
+    let d = c .before .before .before .before .before .before .before .before .before .before .seek in
+    let k = entry (c .before .before .before .before .before .before .before .before .before .before) in
+    let a = k .args in (
+      (k .pre .0 .2, k .pre .0 .3),
+      (
+        ready (a .tables .now) (a .n) (k .pre .0 .0) (omega (arith, k .pre .0 .0, k .pre .0 .1 .well-formed .few-actions)) (d .last .1 .1 .0) (d .last .1 .1 .1 .0) (d .last .1 .1 .1 .1 .0) (d .result) (d .ensures .0 .working) (omega (arith, d .ensures .1)),
+        reaches-zeros (take (d .result .read) (d .last .1 .1 .0)),
+      ),
+    )
+
+same-length : tie.Need-same-length
+same-length c = sought (c .before .before .before) .seek .kept .1 .1 .0
+
+same-length-2 : tie.Need-same-length-2
+same-length-2 c = sought (c .before .before .before) .seek .kept .1 .1 .1 .0
+
+same-length-3 : tie.Need-same-length-3
+same-length-3 c = sought (c .before .before .before) .seek .kept .1 .1 .1 .1 .0
+
+returns-2 : tie.Need-returns-2
+returns-2 c =
+    let d = sought (c .before .before .before) .seek in
+    let k = entry (sought (c .before .before .before)) in
+    let a = k .args in
+    let l = c .before .before .before .law-fits in
+    answer-fails (a .tables .now) (a .law) (a .place) (a .limit) (a .left .now) (a .starts .now) (a .right .now) (a .old .now) (a .state)
+    (a .n) (k .pre .0 .0) (d .last .1 .1 .0) (d .last .1 .1 .1 .0) (d .last .1 .1 .1 .1 .0) (d .result) (d .ensures .0) (d .ensures .1) (l .last .1 .1 .1 .1 .1 .0) (l .last .1 .1 .1 .1 .1 .1 .0) (l .result) (l .ensures .0) (c .if2 .taken)
+
+slice-aggregate-put-in : tie.Need-slice-aggregate-put-in
+slice-aggregate-put-in c = search needs
+
+slice-aggregate-put-in-2 : tie.Need-slice-aggregate-put-in-2
+slice-aggregate-put-in-2 c = search needs
+
+put-in-requires : tie.Need-put-in-requires
+put-in-requires c κs =
+    let d = sought (c .before .before .before .before .before .before .before .before .before) .seek in
+    let k = entry (sought (c .before .before .before .before .before .before .before .before .before)) in
+    let a = k .args in
+    let e : d .result .steps ≡ a .state .steps = ap (λ (z : State). z .steps) (d .ensures .0 .same-step) in (
+      (k .pre .0 .2, k .pre .0 .3, k .pre .1 .0 .0, omega (arith, e, k .pre .1 .0 .1)),
+      (omega (arith, d .ensures .1), d .ensures .0 .working, c .before .before .before .before .before .before .before .before .before .law-fits .ensures .1, k .pre .1 .0 .2),
+    )
+
+enum-known-next : tie.Need-enum-known-next
+enum-known-next c = search needs
+
+enum-told : tie.Need-enum-told
+enum-told c = search needs
+
+same-length-4 : tie.Need-same-length-4
+same-length-4 c = sought (tried (c .before .before .before .before .before .before .before)) .seek .kept .1 .1 .0
+
+same-length-5 : tie.Need-same-length-5
+same-length-5 c = sought (tried (c .before .before .before .before .before .before .before)) .seek .kept .1 .1 .1 .0
+
+same-length-6 : tie.Need-same-length-6
+same-length-6 c = c .before .before .before .before .before .before .before .put-in .kept .1 .1 .1 .1 .0 ∙ sought (tried (c .before .before .before .before .before .before .before)) .seek .kept .1 .1 .1 .1 .0
+
+same-length-7 : tie.Need-same-length-7
+same-length-7 c = c .before .before .before .before .before .before .before .put-in .kept .1 .1 .1 .1 .1 .0
+
+returns-3 : tie.Need-returns-3
+returns-3 c =
+    let d = sought (tried (c .before .before .before .before .before .before .before)) .seek in
+    let k = entry (sought (tried (c .before .before .before .before .before .before .before))) in
+    let a = k .args in
+    let l = tried (c .before .before .before .before .before .before .before) .law-fits in
+    let p = c .before .before .before .before .before .before .before .put-in in
+    let fitting = c .before .before .before .before .before .before .before .before .before .before .before .before .before .before .if2 .left in
+    answer-done (a .tables .now) (a .law) (a .place) (a .limit) (a .left .now) (a .starts .now) (a .right .now) (a .old .now) (a .state)
+    (a .n) (k .pre .0 .0) (d .last .1 .1 .0) (d .last .1 .1 .1 .0) (d .last .1 .1 .1 .1 .0) (d .result) (d .ensures .0) (d .ensures .1)
+    (l .last .1 .1 .1 .1 .1 .0) (l .last .1 .1 .1 .1 .1 .1 .0) (l .result) (l .ensures .0) fitting (p .last .1 .1 .1 .1 .0) (p .last .1 .1 .1 .1 .1 .0) (p .result) _ (c .before .next .given .1) (p .ensures) (k .pre .0 .1) (k .pre .1 .0 .0) (k .pre .1 .1 .1)
+
+same-length-8 : tie.Need-same-length-8
+same-length-8 c = sought (tried (c .before .before .before .before .before .before)) .seek .kept .1 .1 .0
+
+same-length-9 : tie.Need-same-length-9
+same-length-9 c = sought (tried (c .before .before .before .before .before .before)) .seek .kept .1 .1 .1 .0
+
+same-length-10 : tie.Need-same-length-10
+same-length-10 c = c .before .before .before .before .before .before .put-in .kept .1 .1 .1 .1 .0 ∙ sought (tried (c .before .before .before .before .before .before)) .seek .kept .1 .1 .1 .1 .0
+
+same-length-11 : tie.Need-same-length-11
+same-length-11 c = c .before .before .before .before .before .before .put-in .kept .1 .1 .1 .1 .1 .0
+
+returns-4 : tie.Need-returns-4
+returns-4 c =
+    let d = sought (tried (c .before .before .before .before .before .before)) .seek in
+    let k = entry (sought (tried (c .before .before .before .before .before .before))) in
+    let a = k .args in
+    let l = tried (c .before .before .before .before .before .before) .law-fits in
+    let p = c .before .before .before .before .before .before .put-in in
+    let fitting = c .before .before .before .before .before .before .before .before .before .before .before .before .before .if2 .left in
+    answer-long (a .tables .now) (a .law) (a .place) (a .limit) (a .left .now) (a .starts .now) (a .right .now) (a .old .now) (a .state)
+    (a .n) (k .pre .0 .0) (d .last .1 .1 .0) (d .last .1 .1 .1 .0) (d .last .1 .1 .1 .1 .0) (d .result) (d .ensures .0) (d .ensures .1)
+    (l .last .1 .1 .1 .1 .1 .0) (l .last .1 .1 .1 .1 .1 .1 .0) (l .result) (l .ensures .0) fitting (p .last .1 .1 .1 .1 .0) (p .last .1 .1 .1 .1 .1 .0) (p .result) (c .enum-told .given .1) (p .ensures)
+
+pub make-step-spec : {M : Type 1} → statement M
+make-step-spec =
+    tie.close
+    (tie.spec
+    sub-size
+    add-size
+    returns
+    seek-requires
+    slice-reshare-prefix-law-fits
+    slice-aggregate-law-fits
+    slice-reshare-prefix-law-fits-2
+    slice-aggregate-law-fits-2
+    slice-aggregate-law-fits-3
+    slice-aggregate-law-fits-4
+    law-fits-requires
+    same-length
+    same-length-2
+    same-length-3
+    returns-2
+    slice-aggregate-put-in
+    slice-aggregate-put-in-2
+    put-in-requires
+    enum-known-next
+    enum-told
+    same-length-4
+    same-length-5
+    same-length-6
+    same-length-7
+    returns-3
+    same-length-8
+    same-length-9
+    same-length-10
+    same-length-11
+    returns-4)

@@ -1,0 +1,232 @@
+// Steps on a plan under work: a law's right side put in, the unfolding's next step found, a step made at a place.
+use buffer::MOST_WORDS;
+use buffer::State;
+ghost use mathlib.Core.Path.{_≡_};
+ghost use mathlib.Core.Option.{none};
+ghost use Prim.Native.Nat.{_+_, _-_, _≤_, _<_, min};
+ghost use lib.ListN.{length, take};
+ghost use Rattle.tables.specs.Tables.{actions};
+ghost use Rattle.tables.specs.Lawful.{Lawful};
+ghost use Rattle.matching.specs.Right.{Reaches};
+ghost use Rattle.steps.specs.Choice.{next-step};
+ghost use Rattle.steps.specs.Working.{plan-in, Working, Kept, Same, start-here, PutIn, Scan, StepOf};
+
+// A right side put in: the state after the step, or that the next plan would be too long.
+pub enum Made {
+    Step(State),
+    TooLong,
+}
+
+// Where the next step of an unfolding is: a law at the last word read, or nowhere.
+pub enum Scanned {
+    At(u8, State),
+    Nowhere(State),
+}
+
+// One step of a rewriting: made; or the law does not fit at the place; or the next plan would be too long.
+pub enum Stepping {
+    Done(State),
+    Fails(State),
+    Long(State),
+}
+
+// Puts the right side of a law that fits at the last word read in place of the subplan there, unless the plan would have more than
+// limit words. The words taken away are kept in old.
+pub fn put_in(
+    law: u8,
+    tables: &[u8],
+    left: &[u8],
+    starts: &[u16],
+    right: &mut [u8],
+    old: &mut [u8],
+    from: &[u16],
+    to: &[u16],
+    state: State,
+    limit: usize,
+) -> Made
+    requires { ⌜ (1 ≤ law) × (law ≤ 32) × (limit ≤ 16384) × (state .steps < 18446744073709551615) ⌝ }
+    requires { ⌜ (1 ≤ state .read) × Working (now tables) (now left) (now starts) (now right) state × Reaches (take (state .read) (now left)) (now from) (now to) × (length (now old) ≡ 16384) ⌝ }
+    ensures { λ r. ⌜ PutIn (now (tables .entry)) law limit (now (left .entry)) (now (starts .entry)) (now (right .entry)) (now (old .entry)) (now (from .entry)) (now (to .entry)) (now (right .exit)) (now (old .exit)) state r ⌝ }
+{
+    let read = state.read;
+    let rest = state.rest;
+    let start = starts[read - 1] as usize;
+    let size = matching::right_len(law, from, to);
+    if limit < start + size + (MOST_WORDS - rest) {
+        return Made::TooLong;
+    }
+    areas::copy_in(&left[start..read], old, 0);
+    let front = rest - size;
+    matching::put_side(law, tables, &left[..read], from, to, right, front);
+    Made::Step(state.after_step(start, read - start, size, front))
+}
+
+// Moves on until one of laws 5 to 32 fits at the last word read. Nothing fits at the words read before.
+pub fn scan(
+    tables: &[u8],
+    n: u8,
+    left: &mut [u8],
+    starts: &mut [u16],
+    right: &[u8],
+    from: &mut [u16],
+    to: &mut [u16],
+    state: State,
+) -> Scanned
+    requires { ⌜ (n ≡ actions (now tables)) × (n ≤ 31) × Working (now tables) (now left) (now starts) (now right) state ⌝ }
+    requires { ⌜ Reaches (take (state .read) (now left)) (now from) (now to) × (next-step (now tables) (take (state .read) (now left)) ≡ none) ⌝ }
+    ensures { λ r. ⌜ Scan (now (tables .entry)) (now (left .entry)) (now (starts .entry)) (now (right .entry)) (now (left .exit)) (now (starts .exit)) (now (from .exit)) (now (to .exit)) state r ⌝ }
+{
+    let mut gap = state;
+    while gap.rest < MOST_WORDS {
+        gap = buffer::forward(n, &mut *left, &mut *starts, right, gap);
+        let read = gap.read;
+        let law = matching::first_law(
+            tables,
+            n,
+            &left[..read],
+            &starts[..read],
+            &mut *from,
+            &mut *to,
+        );
+        if law != 0 {
+            return Scanned::At(law, gap);
+        }
+    }
+    Scanned::Nowhere(gap)
+}
+
+// Moves the gap forward until the word at a place is the last one read.
+pub fn forward_to(
+    n: u8,
+    tables: &[u8],
+    left: &mut [u8],
+    starts: &mut [u16],
+    right: &[u8],
+    state: State,
+    place: usize,
+) -> State
+    requires { ⌜ (n ≡ actions (now tables)) × (n ≤ 31) × Working (now tables) (now left) (now starts) (now right) state ⌝ }
+    requires { ⌜ (state .read ≤ place + 1) × (place < length (plan-in (now left) (now right) state)) ⌝ }
+    ensures { λ r. ⌜ Same (now (tables .entry)) (now (left .entry)) (now (starts .entry)) (now (right .entry)) (now (left .exit)) (now (starts .exit)) (now (right .entry)) state r × (r .read ≡ place + 1) ⌝ }
+{
+    let mut gap = state;
+    while gap.read <= place {
+        gap = buffer::forward(n, &mut *left, &mut *starts, right, gap);
+    }
+    gap
+}
+
+// Moves the gap back until the word at a place is the last one read.
+pub fn back_to(
+    tables: &[u8],
+    left: &[u8],
+    starts: &[u16],
+    right: &mut [u8],
+    state: State,
+    place: usize,
+) -> State
+    requires { ⌜ Working (now tables) (now left) (now starts) (now right) state × (place < state .read) ⌝ }
+    ensures { λ r. ⌜ Same (now (tables .entry)) (now (left .entry)) (now (starts .entry)) (now (right .entry)) (now (left .entry)) (now (starts .entry)) (now (right .exit)) state r × (r .read ≡ place + 1) ⌝ }
+{
+    let mut gap = state;
+    while place + 1 < gap.read {
+        gap = buffer::back(left, &mut *right, gap);
+    }
+    gap
+}
+
+// Makes law `law` at a place, if it fits there and the next plan has at most limit words.
+pub fn make_step(
+    tables: &[u8],
+    n: u8,
+    law: u8,
+    place: usize,
+    left: &mut [u8],
+    starts: &mut [u16],
+    right: &mut [u8],
+    old: &mut [u8],
+    state: State,
+    limit: usize,
+) -> Stepping
+    requires { ⌜ (n ≡ actions (now tables)) × Lawful (now tables) × (1 ≤ law) × (law ≤ 32) ⌝ }
+    requires { ⌜ (limit ≤ 16384) × (state .steps < 18446744073709551615) × (length (now old) ≡ 16384) ⌝ }
+    requires { ⌜ Working (now tables) (now left) (now starts) (now right) state × Kept limit (plan-in (now left) (now right) state) (now old) state ⌝ }
+    ensures { λ r. ⌜ StepOf (now (tables .entry)) law place limit (now (left .entry)) (now (starts .entry)) (now (right .entry)) (now (old .entry)) (now (left .exit)) (now (starts .exit)) (now (right .exit)) (now (old .exit)) state r ⌝ }
+{
+    let size = state.read + (MOST_WORDS - state.rest);
+    if size <= place {
+        return Stepping::Fails(state);
+    }
+    let there = seek(
+        n,
+        tables,
+        &mut *left,
+        &mut *starts,
+        &mut *right,
+        state,
+        place,
+    );
+    let read = there.read;
+    let mut from = [0u16; 7];
+    let mut to = [0u16; 7];
+    if !matching::law_fits(
+        law,
+        tables,
+        n,
+        &left[..read],
+        &starts[..read],
+        &mut from,
+        &mut to,
+    ) {
+        return Stepping::Fails(there);
+    }
+    match put_in(
+        law,
+        tables,
+        &*left,
+        &*starts,
+        &mut *right,
+        &mut *old,
+        &from,
+        &to,
+        there,
+        limit,
+    ) {
+        Made::Step(next) => Stepping::Done(next),
+        Made::TooLong => Stepping::Long(there),
+    }
+}
+
+// Moves the gap until the word at a place is the last one read.
+pub fn seek(
+    n: u8,
+    tables: &[u8],
+    left: &mut [u8],
+    starts: &mut [u16],
+    right: &mut [u8],
+    state: State,
+    place: usize,
+) -> State
+    requires { ⌜ (n ≡ actions (now tables)) × (n ≤ 31) × Working (now tables) (now left) (now starts) (now right) state × (place < length (plan-in (now left) (now right) state)) ⌝ }
+    ensures { λ r. ⌜ Same (now (tables .entry)) (now (left .entry)) (now (starts .entry)) (now (right .entry)) (now (left .exit)) (now (starts .exit)) (now (right .exit)) state r × (r .read ≡ place + 1) ⌝ }
+{
+    if state.read <= place {
+        forward_to(n, tables, left, starts, &*right, state, place)
+    } else {
+        back_to(tables, &*left, &*starts, right, state, place)
+    }
+}
+
+// The smaller of two numbers.
+fn smaller(a: usize, b: usize) -> usize
+    ensures { λ r. ⌜ r ≡ min a b ⌝ }
+{
+    if a < b { a } else { b }
+}
+
+// C: the least of both areas' lengths and 16,384.
+pub fn least(a: usize, b: usize) -> usize
+    ensures { λ r. ⌜ r ≡ min (min a b) 16384 ⌝ }
+{
+    smaller(smaller(a, b), MOST_WORDS)
+}
