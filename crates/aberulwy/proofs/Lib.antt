@@ -1,1 +1,3 @@
 mod Judging
+mod Parity
+mod Rewriting

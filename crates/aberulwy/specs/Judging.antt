@@ -9,7 +9,7 @@ use Rattle.refusals.specs.declared.Refusal.{Refusal}
 use Rattle.refusals.specs.Refusal.{Report, refused-report}
 use Rattle.tables.specs.Tables.{Tables, actions}
 use Rattle.tables.specs.Lawful.{Lawful}
-use Rattle.plans.specs.Term.{Term, words, Over, term-of}
+use Rattle.plans.specs.Term.{Term, words, Over}
 use Rattle.plans.specs.Judging.{plan-refusal}
 use Rattle.plans.specs.Basic.{Basic, basic-words?, orders-of}
 use Rattle.aberulwy.specs.declared.BasicAnswer.{BasicAnswer}
@@ -46,7 +46,7 @@ abbrev pub bit : Bool → ℕ
 bit true = 1
 bit false = 0
 
--- "Basic … by the words": the words are those of a basic term
+-- "basic goes by the words": the words are those of a basic term
 pub record BasicPlan (t : Tables) (ws : List ℕ) : Type 0 where
   pub plan : AcceptedPlan t ws
   pub basic : Basic (plan .term)

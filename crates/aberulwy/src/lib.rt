@@ -1,7 +1,10 @@
 // Aberulwy: the public calls. Each takes slices of any length and asks nothing of its caller. Under each call, `whole` says its answer,
 // refusals included, and every lent byte at exit; `numbers` says the answer in document 01's numbers; further clauses say what is claimed of it.
+use checking::Checked;
 use refusals::Judgement;
 use refusals::Refusal;
+use stations::StationRead;
+use unfolding::Unfolded;
 ghost use mathlib.Core.Path.{_≡_};
 ghost use mathlib.Core.List.{_∷_, []};
 ghost use mathlib.Core.Logic.{_↔_};
@@ -12,6 +15,13 @@ ghost use Rattle.tables.specs.Judging.{table-refusal};
 ghost use Rattle.tables.specs.Lawful.{Lawful};
 ghost use Rattle.plans.specs.Judging.{plan-refusal};
 ghost use Rattle.plans.specs.Basic.{basic-words?, orders-of};
+ghost use lib.ListN.{length, take};
+ghost use Rattle.stations.specs.File.{plan-held, file-refusal, station-outcome, station-report, StationOutcome};
+ghost use Rattle.buffer.specs.Areas.{capacity, even?};
+ghost use Rattle.unfolding.specs.Unfolding.{run-of, unfold-refusal, unfold-outcome, UnfoldOutcome};
+ghost use Rattle.checking.specs.Checking.{replay-of, check-refusal, check-outcome, CheckOutcome};
+ghost use Rattle.demands.specs.Claims.{reached-part, UnfoldClaims, CheckClaims, StepClaims};
+ghost use Rattle.aberulwy.specs.Rewriting.{unfold-report, check-report, reported-run, reported-replay};
 ghost use Rattle.aberulwy.specs.declared.BasicAnswer.the-variants.{Yes};
 ghost use Rattle.aberulwy.specs.Judging.{AcceptedPlan, BasicPlan, basic-answer, basic-report, bit, orders-answer, orders-report};
 
@@ -81,4 +91,70 @@ pub fn count_orders(tables: &[u8], plan: &[u8]) -> OrdersAnswer
     }
     let n = tables::actions_of(tables);
     OrdersAnswer::Count(plans::count_orders(n, plan))
+}
+
+// Unfolds a plan with an allowance of steps: the records go to the list, the plan reached and the one before it to the areas. Refusals 1 to 8,
+// 11 to 15 leave list and areas as they are.
+pub fn unfold(
+    tables: &[u8],
+    plan: &[u8],
+    allowance: u32,
+    list: &mut [u8],
+    a: &mut [u8],
+    b: &mut [u8],
+) -> Unfolded
+    ensures whole { λ r. ⌜ _≡_ {A = UnfoldOutcome} (record { answer = r; list = now (list .exit); a = now (a .exit); b = now (b .exit) }) (unfold-outcome (now (tables .entry)) (now (plan .entry)) allowance (now (list .entry)) (now (a .entry)) (now (b .entry))) ⌝ }
+    ensures numbers { λ r. ⌜ unfold-report r ≡ reported-run (unfold-refusal (now (tables .entry)) (now (plan .entry)) (capacity (now (a .entry)) (now (b .entry)))) (run-of (now (tables .entry)) (now (plan .entry)) allowance (length (now (list .entry))) (capacity (now (a .entry)) (now (b .entry)))) ⌝ }
+    ensures claims { λ r. ⌜ UnfoldClaims (now (tables .entry)) (now (plan .entry)) (now (list .entry)) (now (a .entry)) (now (b .entry)) r (now (list .exit)) (now (a .exit)) (now (b .exit)) ⌝ }
+{
+    unfolding::unfold(tables, plan, allowance, list, a, b)
+}
+
+// Checks a rewriting from a start plan to a claimed end plan: accepted, or turned back by how far it had come (31 to 33); the plan reached and
+// the one before it go to the areas. Refusals 1 to 8, 11 to 18 leave the areas as they are. A single step is a rewriting of one record.
+pub fn check_rewriting(
+    tables: &[u8],
+    start: &[u8],
+    claimed: &[u8],
+    rewriting: &[u8],
+    a: &mut [u8],
+    b: &mut [u8],
+) -> Checked
+    ensures whole { λ r. ⌜ _≡_ {A = CheckOutcome} (record { answer = r; a = now (a .exit); b = now (b .exit) }) (check-outcome (now (tables .entry)) (now (start .entry)) (now (claimed .entry)) (now (rewriting .entry)) (now (a .entry)) (now (b .entry))) ⌝ }
+    ensures numbers { λ r. ⌜ check-report r ≡ reported-replay (check-refusal (now (tables .entry)) (now (start .entry)) (now (claimed .entry)) (now (rewriting .entry)) (capacity (now (a .entry)) (now (b .entry)))) (replay-of (now (tables .entry)) (now (start .entry)) (now (claimed .entry)) (now (rewriting .entry)) (capacity (now (a .entry)) (now (b .entry)))) ⌝ }
+    ensures claims { λ r. ⌜ CheckClaims (now (tables .entry)) (now (start .entry)) (now (claimed .entry)) r ⌝ }
+    ensures single { λ r. ⌜ StepClaims (now (tables .entry)) (now (start .entry)) (now (claimed .entry)) (now (rewriting .entry)) (now (a .entry)) (now (b .entry)) r (now (a .exit)) (now (b .exit)) ⌝ }
+{
+    checking::check(tables, start, claimed, rewriting, a, b)
+}
+
+// The first words of an area, or all of it where it has fewer.
+fn first_words(area: &[u8], size: usize) -> &[u8]
+    ensures { λ r. ⌜ now r ≡ take size (now (area .entry)) ⌝ }
+{
+    if size < area.len() {
+        &area[..size]
+    } else {
+        area
+    }
+}
+
+// The part of area A or B that holds the plan reached, by the parity of the steps made.
+pub fn reached<'a>(a: &'a [u8], b: &'a [u8], steps: usize, size: usize) -> &'a [u8]
+    ensures whole { λ r. ⌜ now r ≡ reached-part (even? steps) size (now (a .entry)) (now (b .entry)) ⌝ }
+{
+    if steps % 2 == 0 {
+        first_words(a, size)
+    } else {
+        first_words(b, size)
+    }
+}
+
+// Reads a station file into a tables area and a plan area: the plan's length, or refusals 51 to 55, then 1 to 14, which leave the areas as they
+// are.
+pub fn read_station(file: &[u8], tables: &mut [u8], plan: &mut [u8]) -> StationRead
+    ensures whole { λ r. ⌜ _≡_ {A = StationOutcome} (record { answer = r; tables = now (tables .exit); plan = now (plan .exit) }) (station-outcome (now (file .entry)) (now (tables .entry)) (now (plan .entry))) ⌝ }
+    ensures numbers { λ r. ⌜ station-report r ≡ reported (file-refusal (now (file .entry)) (length (now (tables .entry))) (length (now (plan .entry)))) (length (plan-held (now (file .entry))) ∷ []) ⌝ }
+{
+    stations::read_station(file, tables, plan)
 }

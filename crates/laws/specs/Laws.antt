@@ -7,7 +7,6 @@ use lib.Dec.{eqb}
 use Rattle.tables.specs.Tables.{Tables, communication, below, blocked}
 use Rattle.plans.specs.declared.Binary.{Binary}
 use Rattle.plans.specs.declared.Binary.the-variants.{Choice, Sequence, Merge, LeftMerge, CommunicationMerge, Unless}
-use Rattle.plans.specs.declared.Unary.{Unary}
 use Rattle.plans.specs.declared.Unary.the-variants.{Priority, Encapsulation}
 use Rattle.plans.specs.Word.{binary-word}
 use Rattle.plans.specs.Term.{Term, act, un, bin, words, and-then}

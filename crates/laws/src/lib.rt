@@ -1,1 +1,1 @@
-// The thirty-two laws: matching a left side and putting a right side in.
+// The thirty-two laws: definitions in specs/, theorems in proofs/, no function.

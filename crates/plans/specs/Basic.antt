@@ -1,12 +1,10 @@
 -- Basic plans and their orders. (01, "Unfolding" and "Orders, station files, program"; the customer's word BASIC.)
-use Prim.Native.Nat.{ℕ, suc, zero, _+_, _<_}
-use mathlib.Core.Bool.{Bool, true, false, cond, not, _&&_, _||_}
+use Prim.Native.Nat.{ℕ, _+_, _<_}
+use mathlib.Core.Bool.{Bool, false, cond, not, _&&_, _||_}
 use mathlib.Core.List.{List}
 use mathlib.Core.Option.{Option, none, some}
 use lib.Dec.{eqb}
-use Rattle.plans.specs.declared.Binary.{Binary}
 use Rattle.plans.specs.declared.Binary.the-variants.{Choice, Sequence, Merge, LeftMerge, CommunicationMerge, Unless}
-use Rattle.plans.specs.declared.Unary.{Unary}
 use Rattle.plans.specs.Term.{Term, act, un, bin, term-of}
 
 -- "Basic: δ, or a sum-plan; a sum-plan is an action other than 0, such an action · a basic plan, or sum-plan + sum-plan."

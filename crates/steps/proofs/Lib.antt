@@ -2,6 +2,7 @@ pub mod Finding
 pub mod Choosing
 pub mod Prefixes
 pub mod Making
+pub mod Loading
 pub mod Seeking
 mod Putting
 mod Scanning

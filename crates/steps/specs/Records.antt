@@ -1,5 +1,5 @@
 -- Steps as they are recorded, and a rewriting cut into its records. (01, "Unfolding" and "Checking"; the customer's word REWRITING.)
-use Prim.Native.Nat.{ℕ, suc, _+_, _*_, _/_, _%_}
+use Prim.Native.Nat.{ℕ, _+_, _*_, _/_, _%_}
 use mathlib.Core.List.{List, [], _∷_}
 
 -- a step to make: a law and a place

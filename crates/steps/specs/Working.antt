@@ -1,8 +1,8 @@
 -- A plan under work between two steps, and what the functions on it answer.
-use Prim.Native.Nat.{ℕ, suc, _+_, _-_, _≤_, _<_}
+use Prim.Native.Nat.{ℕ, _+_, _-_, _≤_, _<_}
 use mathlib.Core.Path.{_≡_}
 use mathlib.Core.List.{List, _++_}
-use mathlib.Core.Option.{Option, none, some}
+use mathlib.Core.Option.{none, some}
 use lib.ListN.{length, getD, take, drop}
 use Rattle.areas.specs.Area.{overwrite}
 use Rattle.tables.specs.Tables.{Tables, actions}
@@ -13,7 +13,7 @@ use Rattle.matching.specs.Right.{spelled-law, Reaches}
 use Rattle.buffer.specs.declared.State.{State}
 use Rattle.buffer.specs.Areas.{even?}
 use Rattle.buffer.specs.Buffer.{whole, Held, moved, stepped, before, Undoable}
-use Rattle.steps.specs.Choice.{Found, next-step}
+use Rattle.steps.specs.Choice.{next-step}
 use Rattle.steps.specs.declared.Made.{Made}
 use Rattle.steps.specs.declared.Made.the-variants.{Step, TooLong}
 use Rattle.steps.specs.declared.Scanned.{Scanned}

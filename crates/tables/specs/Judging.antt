@@ -1,7 +1,7 @@
 -- How tables are judged: refusals 1 to 8, each just when its condition is the first to hold. (01, "Tables" and "Turned back by what was handed in".)
 use Prim.Native.Nat.{ℕ, suc, _+_, _-_, _/_, _%_}
 use mathlib.Core.Bool.{Bool, cond, not, _&&_, _||_}
-use mathlib.Core.Option.{Option, none, some}
+use mathlib.Core.Option.{Option, none}
 use lib.ListN.{getD, length}
 use lib.Dec.{eqb, leb, ltb}
 use Rattle.refusals.specs.declared.Place.{Place}

@@ -2,12 +2,11 @@
 -- (source 000, Table 1) and the four conditions on the priority order (source 000, 1.4), for all actions 0 to n.
 use Prim.Native.Nat.{ℕ, _≤_, _<_, _+_, _*_}
 use mathlib.Core.Path.{_≡_}
-use mathlib.Core.Bool.{true, false}
-use mathlib.Core.List.{List}
+use mathlib.Core.Bool.{true}
 use lib.ListN.{getD, length}
-use Rattle.tables.specs.Tables.{Tables, actions, communication, below, blocked}
+use Rattle.tables.specs.Tables.{Tables, actions, communication, below}
 
--- a|b of row a, column b, and so on, as the bytes stand in the three parts
+-- the entries of priority and of the sets, as the bytes stand
 unfoldable pub priority-entry : Tables → ℕ → ℕ → ℕ
 priority-entry t a b = getD t (1025 + (32 * a + b)) 0
 

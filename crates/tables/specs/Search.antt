@@ -1,4 +1,4 @@
--- The first number, pair or triple of numbers at which something is found. (01, "first byte"; "the first triple in counting order".)
+-- The first number at which something is found; nested, the first triple. (01, "first byte"; "the first triple in counting order".)
 use Prim.Native.Nat.{ℕ, suc, zero}
 use mathlib.Core.Bool.{Bool, true, false}
 use mathlib.Core.Option.{Option, none, some}

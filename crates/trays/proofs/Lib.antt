@@ -1,2 +1,3 @@
 mod Ground
 mod Meaning
+mod Unfolding

@@ -1,6 +1,5 @@
 -- The tables of the trial trays. (01, "Trial trays".)
 use Prim.Native.Nat.{ℕ, _+_, _*_}
-use mathlib.Core.List.{List, [], _∷_}
 use lib.ListN.{set, replicate}
 use Rattle.tables.specs.Tables.{Tables}
 

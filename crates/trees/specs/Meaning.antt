@@ -3,7 +3,7 @@ use Prim.Native.Nat.{ℕ}
 use mathlib.Core.Bool.{cond}
 use mathlib.Core.Path.{_≡_}
 use mathlib.Core.List.{List}
-use mathlib.Core.Option.{Option, none, some}
+use mathlib.Core.Option.{Option, some}
 use lib.Dec.{eqb}
 use Rattle.tables.specs.Tables.{Tables, actions, communication, below, blocked}
 use Rattle.plans.specs.declared.Binary.{Binary}
@@ -11,7 +11,7 @@ use Rattle.plans.specs.declared.Binary.the-variants.{Choice, Sequence, Merge, L
 use Rattle.plans.specs.declared.Unary.{Unary}
 use Rattle.plans.specs.declared.Unary.the-variants.{Priority, Encapsulation}
 use Rattle.plans.specs.Term.{Term, act, un, bin, term-of, and-then}
-use Rattle.trees.specs.Tree.{Tree, stop, Rest, finish, Alike}
+use Rattle.trees.specs.Tree.{Tree, stop, finish, Alike}
 use Rattle.trees.specs.Operators.{one, _⊕_, _⊙_, merge-trees, left-trees, communication-trees, encapsulation-tree, unless-tree, priority-tree}
 
 unfoldable pub binary-tree : Tables → Binary → Tree → Tree → Tree

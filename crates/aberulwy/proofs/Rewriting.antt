@@ -1,0 +1,93 @@
+-- What the unfolding and the checker answer, in 01's numbers, and what is claimed of them, from their outcomes.
+use Prim.Native.Nat.{ℕ}
+use mathlib.Core.Path.{_≡_, refl, sym, _∙_, ap, subst}
+use mathlib.Core.Bool.{Bool, true, false, cond}
+use mathlib.Core.List.{List, [], _∷_}
+use mathlib.Core.Option.{Option, none, some}
+use lib.ListN.{length}
+use lib.Dec.{eqb}
+use borrow.Author.Tests.{eqb-true}
+use Rattle.refusals.specs.declared.Refusal.{Refusal}
+use Rattle.refusals.specs.Refusal.{Report}
+use Rattle.tables.specs.Tables.{Tables}
+use Rattle.buffer.specs.Areas.{capacity}
+use Rattle.unfolding.specs.declared.Unfolded.{Unfolded}
+use Rattle.unfolding.specs.declared.Unfolded.the-variants.{Finished, Stopped}
+use Rattle.unfolding.specs.Unfolding.{Run, run-of, unfolded, unfold-refusal, unfold-outcome, UnfoldOutcome}
+use Rattle.unfolding.specs.Unfolding as unfolding-of
+use Rattle.checking.specs.declared.Checked.{Checked}
+use Rattle.checking.specs.declared.Checked.the-variants.{Accepted, TurnedBack}
+use Rattle.checking.specs.Checking.{Replay, replay-of, checked, check-refusal, check-outcome, CheckOutcome}
+use Rattle.checking.specs.Checking as checking-of
+use Rattle.demands.specs.Claims.{UnfoldClaims, CheckClaims, StepClaims}
+use Rattle.demands.proofs.Claims.{unfold-claims, check-claims}
+use Rattle.demands.proofs.Single.{step-claims}
+use Rattle.aberulwy.specs.Rewriting.{unfold-report, check-report, reported-run, reported-replay}
+
+run-numbers : (r : Run) → unfold-report (unfolded r) ≡ record { number = r .number; place = 0; values = r .steps ∷ length (r .plan) ∷ [] }
+run-numbers r = go (eqb (r .number) 0) refl
+  where
+    go : (b : Bool) → eqb (r .number) 0 ≡ b
+        → unfold-report (cond b (Finished (r .steps) (length (r .plan))) (Stopped (r .number) (r .steps) (length (r .plan))))
+        ≡ record { number = r .number; place = 0; values = r .steps ∷ length (r .plan) ∷ [] }
+    go true e = ap (λ (k : ℕ). record { number = k; place = 0; values = r .steps ∷ length (r .plan) ∷ [] }) (sym (eqb-true (r .number) 0 e))
+    go false e = refl
+
+replay-numbers : (r : Replay) → check-report (checked r) ≡ record { number = r .number; place = 0; values = r .steps ∷ length (r .plan) ∷ [] }
+replay-numbers r = go (eqb (r .number) 0) refl
+  where
+    go : (b : Bool) → eqb (r .number) 0 ≡ b
+        → check-report (cond b (Accepted (r .steps) (length (r .plan))) (TurnedBack (r .number) (r .steps) (length (r .plan))))
+        ≡ record { number = r .number; place = 0; values = r .steps ∷ length (r .plan) ∷ [] }
+    go true e = ap (λ (k : ℕ). record { number = k; place = 0; values = r .steps ∷ length (r .plan) ∷ [] }) (sym (eqb-true (r .number) 0 e))
+    go false e = refl
+
+-- the outcome of an unfolding carries everything that its contract says
+module _ (t : Tables) (plan : List ℕ) (m : ℕ) (list a b : List ℕ) where
+  unfold-numbers : unfold-report (unfold-outcome t plan m list a b .answer) ≡ reported-run (unfold-refusal t plan (capacity a b)) (run-of t plan m (length list) (capacity a b))
+  unfolding unfold-outcome
+  unfold-numbers = go (unfold-refusal t plan (capacity a b))
+    where
+      go : (o : Option Refusal) → unfold-report (unfolding-of.unless-refused o (run-of t plan m (length list) (capacity a b)) list a b .answer)
+          ≡ reported-run o (run-of t plan m (length list) (capacity a b))
+      go none = run-numbers (run-of t plan m (length list) (capacity a b))
+      go (some f) = refl
+
+  pub unfold-contract : (o : UnfoldOutcome) → o ≡ unfold-outcome t plan m list a b
+      → (o ≡ unfold-outcome t plan m list a b)
+      × ((unfold-report (o .answer) ≡ reported-run (unfold-refusal t plan (capacity a b)) (run-of t plan m (length list) (capacity a b)))
+      × UnfoldClaims t plan list a b (o .answer) (o .list) (o .a) (o .b))
+  unfold-contract o e = (
+    e,
+    (
+      ap (λ (x : UnfoldOutcome). unfold-report (x .answer)) e ∙ unfold-numbers,
+      subst (λ (x : UnfoldOutcome). UnfoldClaims t plan list a b (x .answer) (x .list) (x .a) (x .b)) (sym e) (unfold-claims t plan m list a b),
+    ),
+  )
+
+-- and so does that of a check
+module _ (t : Tables) (start claimed rewriting a b : List ℕ) where
+  check-numbers : check-report (check-outcome t start claimed rewriting a b .answer)
+      ≡ reported-replay (check-refusal t start claimed rewriting (capacity a b)) (replay-of t start claimed rewriting (capacity a b))
+  unfolding check-outcome
+  check-numbers = go (check-refusal t start claimed rewriting (capacity a b))
+    where
+      go : (o : Option Refusal) → check-report (checking-of.unless-refused o (replay-of t start claimed rewriting (capacity a b)) a b .answer)
+          ≡ reported-replay o (replay-of t start claimed rewriting (capacity a b))
+      go none = replay-numbers (replay-of t start claimed rewriting (capacity a b))
+      go (some f) = refl
+
+  pub check-contract : (o : CheckOutcome) → o ≡ check-outcome t start claimed rewriting a b
+      → (o ≡ check-outcome t start claimed rewriting a b)
+      × ((check-report (o .answer) ≡ reported-replay (check-refusal t start claimed rewriting (capacity a b)) (replay-of t start claimed rewriting (capacity a b)))
+      × (CheckClaims t start claimed (o .answer) × StepClaims t start claimed rewriting a b (o .answer) (o .a) (o .b)))
+  check-contract o e = (
+    e,
+    (
+      ap (λ (x : CheckOutcome). check-report (x .answer)) e ∙ check-numbers,
+      (
+        subst (λ (x : CheckOutcome). CheckClaims t start claimed (x .answer)) (sym e) (check-claims t start claimed rewriting a b),
+        subst (λ (x : CheckOutcome). StepClaims t start claimed rewriting a b (x .answer) (x .a) (x .b)) (sym e) (step-claims t start claimed rewriting a b),
+      ),
+    ),
+  )

@@ -1,0 +1,272 @@
+// The checker: the replay of anybody's rewriting.
+use buffer::State;
+use reader::Cursor;
+use reader::Record;
+use refusals::Judgement;
+use refusals::Place;
+use refusals::Refusal;
+use steps::Stepping;
+ghost use mathlib.Core.Path.{_≡_};
+ghost use mathlib.Core.Bool.{cond};
+ghost use mathlib.Core.List.{[]};
+ghost use mathlib.Core.Option.{none};
+ghost use Prim.Native.Nat.{_+_, _≤_, _<_};
+ghost use lib.ListN.{length, take, drop};
+ghost use Rattle.refusals.specs.Refusal.{judged};
+ghost use Rattle.tables.specs.Tables.{actions};
+ghost use Rattle.tables.specs.Lawful.{Lawful};
+ghost use Rattle.plans.specs.Judging.{plan-refusal};
+ghost use Rattle.laws.specs.Laws.{same-bytes};
+ghost use Rattle.buffer.specs.Areas.{capacity};
+ghost use Rattle.buffer.specs.Buffer.{before};
+ghost use Rattle.steps.specs.Records.{moves-of};
+ghost use Rattle.steps.specs.Working.{plan-in, Working, Kept};
+ghost use Rattle.checking.specs.Checking.{unknown-law, replay-of, rewriting-refusal, settled, check-outcome, CheckOutcome};
+ghost use Rattle.checking.specs.Turns.{Replayed};
+
+// What a check answers: accepted; or turned back by how far it had come (31, 32, 33); or refused by what was handed in.
+pub enum Checked {
+    Accepted {
+        steps: usize,
+        size: usize,
+    },
+    TurnedBack {
+        number: u8,
+        steps: usize,
+        size: usize,
+    },
+    Refused(Refusal),
+}
+
+// How a replay ended: 31 or 32, or 0 where all steps were made.
+pub struct Last {
+    pub number: u8,
+    pub state: State,
+}
+
+// Judges the laws of a rewriting: 17 with the first step whose law is 0 or above 32.
+fn judge_laws(rewriting: &[u8]) -> Judgement
+    ensures { λ r. ⌜ r ≡ judged (unknown-law 0 (moves-of (now (rewriting .entry)))) ⌝ }
+{
+    let mut cursor = Cursor { at: 0 };
+    let mut step: usize = 0;
+    loop {
+        let record = cursor.next(rewriting);
+        match record {
+            Record::End => {
+                return Judgement::Accepted;
+            }
+            Record::Step(law, _, next) => {
+                if law < 1 || 32 < law {
+                    return Judgement::Refused(Refusal {
+                        number: 17,
+                        place: Place::Step(step),
+                    });
+                }
+                cursor = next;
+                step += 1;
+            }
+        }
+    }
+}
+
+// Judges what a checker is handed besides tables and start plan: 18, 15, 16 and 17, in this order.
+fn judge_rewriting(n: u8, start: &[u8], claimed: &[u8], rewriting: &[u8], limit: usize) -> Judgement
+    requires { ⌜ n ≤ 31 ⌝ }
+    ensures { λ r. ⌜ r ≡ judged (rewriting-refusal n (now (start .entry)) (now (claimed .entry)) (now (rewriting .entry)) limit) ⌝ }
+{
+    match plans::judge_words(n, claimed) {
+        Judgement::Refused(_) => {
+            return Judgement::Refused(Refusal {
+                number: 18,
+                place: Place::Nowhere,
+            });
+        }
+        Judgement::Accepted => {}
+    }
+    if limit < start.len() {
+        return Judgement::Refused(Refusal {
+            number: 15,
+            place: Place::Nowhere,
+        });
+    }
+    if rewriting.len() % 3 != 0 {
+        return Judgement::Refused(Refusal {
+            number: 16,
+            place: Place::Nowhere,
+        });
+    }
+    judge_laws(rewriting)
+}
+
+// Replays a rewriting on the plan under work.
+fn replay_on(
+    tables: &[u8],
+    n: u8,
+    rewriting: &[u8],
+    left: &mut [u8],
+    starts: &mut [u16],
+    right: &mut [u8],
+    old: &mut [u8],
+    state: State,
+    limit: usize,
+) -> Last
+    requires { ⌜ (n ≡ actions (now tables)) × Lawful (now tables) × (limit ≤ 16384) × (length (now old) ≡ 16384) × (unknown-law 0 (moves-of (now rewriting)) ≡ none) ⌝ }
+    requires { ⌜ Working (now tables) (now left) (now starts) (now right) state × Kept limit (plan-in (now left) (now right) state) (now old) state × (state .steps ≡ 0) ⌝ }
+    ensures { λ r. ⌜ Replayed (now (tables .entry)) limit (moves-of (now (rewriting .entry))) 0 (plan-in (now (left .entry)) (now (right .entry)) state) (before state (plan-in (now (left .entry)) (now (right .entry)) state) (now (old .entry))) (now (left .exit)) (now (starts .exit)) (now (right .exit)) (now (old .exit)) r ⌝ }
+{
+    let mut gap = state;
+    let mut cursor = Cursor { at: 0 };
+    loop {
+        let record = cursor.next(rewriting);
+        match record {
+            Record::End => {
+                return Last {
+                    number: 0,
+                    state: gap,
+                };
+            }
+            Record::Step(law, place, next) => {
+                let made = steps::make_step(
+                    tables,
+                    n,
+                    law,
+                    place,
+                    &mut *left,
+                    &mut *starts,
+                    &mut *right,
+                    &mut *old,
+                    gap,
+                    limit,
+                );
+                match made {
+                    Stepping::Done(after) => {
+                        gap = after;
+                        cursor = next;
+                    }
+                    Stepping::Fails(last) => {
+                        return Last {
+                            number: 31,
+                            state: last,
+                        };
+                    }
+                    Stepping::Long(last) => {
+                        return Last {
+                            number: 32,
+                            state: last,
+                        };
+                    }
+                }
+            }
+        }
+    }
+}
+
+// Whether two plans are equal in their words.
+fn same_words(v: &[u8], w: &[u8]) -> bool
+    ensures { λ r. ⌜ r ≡ same-bytes (now (v .entry)) (now (w .entry)) ⌝ }
+{
+    if v.len() != w.len() {
+        return false;
+    }
+    let mut i: usize = 0;
+    while i < v.len() {
+        if v[i] != w[i] {
+            return false;
+        }
+        i += 1;
+    }
+    true
+}
+
+// Whether the plan reached, which stands in one of two areas by the parity, equals the claimed one in its words.
+fn reached(a: &[u8], b: &[u8], even: bool, size: usize, claimed: &[u8]) -> bool
+    requires { ⌜ (size ≤ length (now a)) × (size ≤ length (now b)) ⌝ }
+    ensures { λ r. ⌜ r ≡ same-bytes (take size (cond even (now (a .entry)) (now (b .entry)))) (now (claimed .entry)) ⌝ }
+{
+    if even {
+        same_words(&a[..size], claimed)
+    } else {
+        same_words(&b[..size], claimed)
+    }
+}
+
+// Checks a rewriting of an accepted plan that the areas can hold, all of whose laws are known.
+fn check_accepted(
+    tables: &[u8],
+    start: &[u8],
+    claimed: &[u8],
+    rewriting: &[u8],
+    limit: usize,
+    a: &mut [u8],
+    b: &mut [u8],
+) -> Checked
+    requires { ⌜ (plan-refusal (now tables) (now start) ≡ none) × (limit ≡ capacity (now a) (now b)) × (length (now start) ≤ limit) × (unknown-law 0 (moves-of (now rewriting)) ≡ none) ⌝ }
+    ensures { λ r. ⌜ _≡_ {A = CheckOutcome} (record { answer = r; a = now (a .exit); b = now (b .exit) }) (settled (replay-of (now (tables .entry)) (now (start .entry)) (now (claimed .entry)) (now (rewriting .entry)) limit) (now (a .entry)) (now (b .entry))) ⌝ }
+{
+    let n = tables::actions_of(tables);
+    let mut left = [0u8; 16384];
+    let mut starts = [0u16; 16384];
+    let mut right = [0u8; 16384];
+    let mut old = [0u8; 16384];
+    let state = buffer::load(start, &mut right);
+    let last = replay_on(
+        tables,
+        n,
+        rewriting,
+        &mut left,
+        &mut starts,
+        &mut right,
+        &mut old,
+        state,
+        limit,
+    );
+    let end = last.state;
+    let size = buffer::store(&left, &right, &old, end, &mut *a, &mut *b);
+    let number = last.number;
+    let steps = end.steps;
+    let even = end.even;
+    if number != 0 {
+        return Checked::TurnedBack {
+            number,
+            steps,
+            size,
+        };
+    }
+    if reached(&*a, &*b, even, size, claimed) {
+        return Checked::Accepted { steps, size };
+    }
+    Checked::TurnedBack {
+        number: 33,
+        steps,
+        size,
+    }
+}
+
+// Checks a rewriting from a start plan to a claimed end plan.
+pub fn check(
+    tables: &[u8],
+    start: &[u8],
+    claimed: &[u8],
+    rewriting: &[u8],
+    a: &mut [u8],
+    b: &mut [u8],
+) -> Checked
+    ensures whole { λ r. ⌜ _≡_ {A = CheckOutcome} (record { answer = r; a = now (a .exit); b = now (b .exit) }) (check-outcome (now (tables .entry)) (now (start .entry)) (now (claimed .entry)) (now (rewriting .entry)) (now (a .entry)) (now (b .entry))) ⌝ }
+{
+    match plans::judge_plan(tables, start) {
+        Judgement::Refused(refusal) => {
+            return Checked::Refused(refusal);
+        }
+        Judgement::Accepted => {}
+    }
+    let n = tables::actions_of(tables);
+    let limit = steps::least(a.len(), b.len());
+    match judge_rewriting(n, start, claimed, rewriting, limit) {
+        Judgement::Refused(refusal) => {
+            return Checked::Refused(refusal);
+        }
+        Judgement::Accepted => {}
+    }
+    check_accepted(tables, start, claimed, rewriting, limit, a, b)
+}

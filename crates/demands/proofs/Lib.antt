@@ -1,0 +1,3 @@
+pub mod Running
+pub mod Single
+pub mod Claims

@@ -1,0 +1,7 @@
+mod Answers
+pub mod Blocks
+mod Files
+pub mod Forms
+mod Gathering
+pub mod Reading
+mod Examples
