@@ -10,19 +10,20 @@ use borrow.Author.Tests.{eqb-true}
 use Rattle.refusals.specs.declared.Refusal.{Refusal}
 use Rattle.refusals.specs.Refusal.{Report}
 use Rattle.tables.specs.Tables.{Tables}
-use Rattle.buffer.specs.Areas.{capacity}
+use Rattle.buffer.specs.Areas.{capacity, even?}
 use Rattle.unfolding.specs.declared.Unfolded.{Unfolded}
-use Rattle.unfolding.specs.declared.Unfolded.the-variants.{Finished, Stopped}
+use Rattle.unfolding.specs.declared.Unfolded.the-variants.{Finished, Stopped, Refused as Not-unfolded}
 use Rattle.unfolding.specs.Unfolding.{Run, run-of, unfolded, unfold-refusal, unfold-outcome, UnfoldOutcome}
 use Rattle.unfolding.specs.Unfolding as unfolding-of
 use Rattle.checking.specs.declared.Checked.{Checked}
 use Rattle.checking.specs.declared.Checked.the-variants.{Accepted, TurnedBack}
 use Rattle.checking.specs.Checking.{Replay, replay-of, checked, check-refusal, check-outcome, CheckOutcome}
 use Rattle.checking.specs.Checking as checking-of
-use Rattle.demands.specs.Claims.{UnfoldClaims, CheckClaims, StepClaims}
+use Rattle.demands.specs.Claims.{Reports, finished, stopped, reached-part, own-rewriting, UnfoldClaims, CheckClaims, StepClaims}
+use Rattle.aberulwy.specs.declared.OwnCheck.the-variants.{Checked as Checked-as, NotChecked as Nothing-checked}
 use Rattle.demands.proofs.Claims.{unfold-claims, check-claims}
 use Rattle.demands.proofs.Single.{step-claims}
-use Rattle.aberulwy.specs.Rewriting.{unfold-report, check-report, reported-run, reported-replay}
+use Rattle.aberulwy.specs.Rewriting.{unfold-report, check-report, reported-run, reported-replay, OwnOutcome, BothOutcome, own-outcome, check-own, both-outcome, OwnAccepted}
 
 run-numbers : (r : Run) → unfold-report (unfolded r) ≡ record { number = r .number; place = 0; values = r .steps ∷ length (r .plan) ∷ [] }
 run-numbers r = go (eqb (r .number) 0) refl
@@ -91,3 +92,47 @@ module _ (t : Tables) (start claimed rewriting a b : List ℕ) where
       ),
     ),
   )
+
+-- both calls, one after the other: what they leave is both outcomes, and the check of the own rewriting accepts
+module _ (t : Tables) (plan : List ℕ) (m : ℕ) (list a b c d : List ℕ) where
+  own-answer : (o : UnfoldOutcome) {x : Unfolded} {s z : ℕ} → Reports x s z
+      → check-own t plan o x c d ≡ own-outcome (check-outcome t plan (reached-part (even? s) z (o .a) (o .b)) (own-rewriting s (o .list)) c d)
+  unfolding check-own
+  own-answer o finished = refl
+  own-answer o stopped = refl
+
+  pub both-contract : (o : UnfoldOutcome) (w : OwnOutcome) → o ≡ unfold-outcome t plan m list a b → w ≡ check-own t plan o (o .answer) c d
+      → (_≡_ {A = BothOutcome} (record { unfolded = o; own = w }) (both-outcome t plan m list a b c d)) × OwnAccepted (o .answer) (w .answer) a b c d
+  unfolding both-outcome
+  both-contract o w e h = (
+    ap (λ (x : OwnOutcome). record { unfolded = o; own = x }) h
+        ∙ ap (λ (x : UnfoldOutcome). record { unfolded = x; own = check-own t plan x (x .answer) c d }) e,
+    record {
+      accepts = λ s z r i j.
+          ap (λ (x : OwnOutcome). x .answer) (h ∙ own-answer o r)
+          ∙ ap (λ (x : Checked). Checked-as x)
+          (subst (λ (x : UnfoldOutcome). UnfoldClaims t plan list a b (x .answer) (x .list) (x .a) (x .b)) (sym e) (unfold-claims t plan m list a b)
+          .own-rewriting-accepted s z r c d i j);
+    },
+  )
+
+  abbrev Leaves : Unfolded → List ℕ → List ℕ → List ℕ → OwnOutcome → Type 0
+  Leaves x l y z w =
+      (_≡_ {A = BothOutcome} (record { unfolded = record { answer = x; list = l; a = y; b = z }; own = w }) (both-outcome t plan m list a b c d))
+      × OwnAccepted x (w .answer) a b c d
+
+  -- the unfolding answered x, which reports so many steps and words, and its own rewriting was checked
+  pub both-checked : {x x′ : Unfolded} {s k : ℕ} (l y z : List ℕ) → Reports x s k → x′ ≡ x
+      → record { answer = x′; list = l; a = y; b = z } ≡ unfold-outcome t plan m list a b
+      → (v : CheckOutcome) → v ≡ check-outcome t plan (reached-part (even? s) k y z) (own-rewriting s l) c d → Leaves x l y z (own-outcome v)
+  both-checked {x} l y z r q e v h =
+      both-contract (record { answer = x; list = l; a = y; b = z }) (own-outcome v)
+      (subst (λ (i : Unfolded). record { answer = i; list = l; a = y; b = z } ≡ unfold-outcome t plan m list a b) q e)
+      (ap own-outcome h ∙ sym (own-answer (record { answer = x; list = l; a = y; b = z }) r))
+
+  -- it was refused
+  pub both-refused : {x : Unfolded} {f : Refusal} (l y z : List ℕ) → x ≡ Not-unfolded f → record { answer = x; list = l; a = y; b = z } ≡ unfold-outcome t plan m list a b
+      → Leaves x l y z (record { answer = Nothing-checked; a = c; b = d })
+  unfolding check-own
+  both-refused {x} l y z q e =
+      both-contract (record { answer = x; list = l; a = y; b = z }) (record { answer = Nothing-checked; a = c; b = d }) e (rw q)

@@ -20,8 +20,8 @@ ghost use Rattle.stations.specs.File.{plan-held, file-refusal, station-outcome,
 ghost use Rattle.buffer.specs.Areas.{capacity, even?};
 ghost use Rattle.unfolding.specs.Unfolding.{run-of, unfold-refusal, unfold-outcome, UnfoldOutcome};
 ghost use Rattle.checking.specs.Checking.{replay-of, check-refusal, check-outcome, CheckOutcome};
-ghost use Rattle.demands.specs.Claims.{reached-part, UnfoldClaims, CheckClaims, StepClaims};
-ghost use Rattle.aberulwy.specs.Rewriting.{unfold-report, check-report, reported-run, reported-replay};
+ghost use Rattle.demands.specs.Claims.{reached-part, own-rewriting, UnfoldClaims, CheckClaims, StepClaims};
+ghost use Rattle.aberulwy.specs.Rewriting.{unfold-report, check-report, reported-run, reported-replay, both-outcome, BothOutcome, OwnAccepted};
 ghost use Rattle.aberulwy.specs.declared.BasicAnswer.the-variants.{Yes};
 ghost use Rattle.aberulwy.specs.Judging.{AcceptedPlan, BasicPlan, basic-answer, basic-report, bit, orders-answer, orders-report};
 
@@ -157,4 +157,88 @@ pub fn read_station(file: &[u8], tables: &mut [u8], plan: &mut [u8]) -> StationR
     ensures numbers { λ r. ⌜ station-report r ≡ reported (file-refusal (now (file .entry)) (length (now (tables .entry))) (length (now (plan .entry)))) (length (plan-held (now (file .entry))) ∷ []) ⌝ }
 {
     stations::read_station(file, tables, plan)
+}
+
+// The check of an unfolding's own rewriting; nothing is checked where the unfolding was refused.
+pub enum OwnCheck {
+    Checked(Checked),
+    NotChecked,
+}
+
+// The answers of an unfolding and of the check of its own rewriting.
+pub struct BothAnswers {
+    pub unfolded: Unfolded,
+    pub own: OwnCheck,
+}
+
+// An unfolding's own rewriting: the first three bytes of its list for each step, or all of it where it has fewer.
+fn own_records(list: &[u8], steps: usize) -> &[u8]
+    ensures { λ r. ⌜ now r ≡ own-rewriting steps (now (list .entry)) ⌝ }
+{
+    if steps <= list.len() / 3 {
+        let used = 3 * steps;
+        return first_words(list, used);
+    }
+    list
+}
+
+// Checks an unfolding's own rewriting, from the given plan to the plan reached.
+fn check_own<'a>(
+    tables: &[u8],
+    plan: &[u8],
+    steps: usize,
+    size: usize,
+    list: &[u8],
+    a: &'a [u8],
+    b: &'a [u8],
+    c: &mut [u8],
+    d: &mut [u8],
+) -> Checked
+    ensures { λ r. ⌜ _≡_ {A = CheckOutcome} (record { answer = r; a = now (c .exit); b = now (d .exit) }) (check-outcome (now (tables .entry)) (now (plan .entry)) (reached-part (even? steps) size (now (a .entry)) (now (b .entry))) (own-rewriting steps (now (list .entry))) (now (c .entry)) (now (d .entry))) ⌝ }
+{
+    let claimed = reached(a, b, steps, size);
+    let rewriting = own_records(list, steps);
+    checking::check(tables, plan, claimed, rewriting, c, d)
+}
+
+// Unfolds a plan, then checks the unfolding's own rewriting in areas c and d. Where these are as long as a and b, the check accepts: that is
+// proved.
+pub fn unfold_checked(
+    tables: &[u8],
+    plan: &[u8],
+    allowance: u32,
+    list: &mut [u8],
+    a: &mut [u8],
+    b: &mut [u8],
+    c: &mut [u8],
+    d: &mut [u8],
+) -> BothAnswers
+    ensures whole { λ r. ⌜ _≡_ {A = BothOutcome} (record { unfolded = record { answer = r .unfolded; list = now (list .exit); a = now (a .exit); b = now (b .exit) }; own = record { answer = r .own; a = now (c .exit); b = now (d .exit) } }) (both-outcome (now (tables .entry)) (now (plan .entry)) allowance (now (list .entry)) (now (a .entry)) (now (b .entry)) (now (c .entry)) (now (d .entry))) ⌝ }
+    ensures accepted { λ r. ⌜ OwnAccepted (r .unfolded) (r .own) (now (a .entry)) (now (b .entry)) (now (c .entry)) (now (d .entry)) ⌝ }
+{
+    let unfolded = unfolding::unfold(tables, plan, allowance, &mut *list, &mut *a, &mut *b);
+    match unfolded {
+        Unfolded::Finished { steps, size } => {
+            let checked = check_own(tables, plan, steps, size, &*list, &*a, &*b, c, d);
+            BothAnswers {
+                unfolded,
+                own: OwnCheck::Checked(checked),
+            }
+        }
+        Unfolded::Stopped {
+            number: _,
+            steps,
+            size,
+        } => {
+            let checked = check_own(tables, plan, steps, size, &*list, &*a, &*b, c, d);
+            BothAnswers {
+                unfolded,
+                own: OwnCheck::Checked(checked),
+            }
+        }
+        Unfolded::Refused(_) => BothAnswers {
+            unfolded,
+            own: OwnCheck::NotChecked,
+        },
+    }
 }
