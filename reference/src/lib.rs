@@ -1,0 +1,23 @@
+//! A second, independent implementation of the station plan unfolder and of
+//! the rewriting checker, written from document 01 alone.
+//!
+//! It is plain and unhurried: every answer, refusal and lent byte is computed
+//! by the shortest rendering of the sentence that asks for it, so that another
+//! implementation can be compared with it byte for byte. Each item quotes the
+//! sentence of document 01 that it renders.
+
+#![forbid(unsafe_code)]
+#![warn(missing_docs)]
+
+pub mod checking;
+pub mod laws;
+pub mod plans;
+pub mod random;
+pub mod refusals;
+pub mod runs;
+pub mod stations;
+pub mod tables;
+pub mod trees;
+pub mod unfolding;
+
+pub use refusals::{Place, Refusal};

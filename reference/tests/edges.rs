@@ -1,0 +1,309 @@
+//! The random cases come to the edges: each kind of case named here is met.
+
+use reference::checking;
+use reference::plans::{judge_plan, LONGEST_PLAN};
+use reference::random::cases::{check_case, unfold_case, CheckCase, UnfoldCase};
+use reference::random::plans::damaged_plan;
+use reference::random::tables::damaged_tables;
+use reference::random::Random;
+use reference::refusals::Place;
+use reference::tables::{below, judge_tables};
+use reference::unfolding;
+use std::collections::BTreeMap;
+
+/// How often each kind was met.
+#[derive(Default)]
+struct Met(BTreeMap<&'static str, usize>);
+
+impl Met {
+    fn note(&mut self, kind: &'static str, here: bool) {
+        *self.0.entry(kind).or_default() += usize::from(here);
+    }
+
+    fn assert_all(&self) {
+        let missing: Vec<_> = self.0.iter().filter(|(_, &count)| count == 0).collect();
+        assert!(missing.is_empty(), "{missing:?}");
+    }
+}
+
+#[test]
+fn edges_of_tables() {
+    let (mut random, mut met) = (Random::new(41), Met::default());
+    for _ in 0..20_000 {
+        let tables = damaged_tables(&mut random);
+        let Err(refusal) = judge_tables(&tables) else {
+            met.note("accepted though damaged", true);
+            continue;
+        };
+        match (refusal.number, refusal.place) {
+            (1, _) => note_length(&mut met, tables.len()),
+            (2, _) => met.note("2 above", tables[0] > 31),
+            (3, Place::Byte(index)) => note_entry(&mut met, &tables, index),
+            (4, Place::Byte(index)) => {
+                met.note("4 in the row", index <= 32);
+                met.note("4 in the column", index > 32);
+                met.note("4 at 0|0", index == 1);
+            }
+            (6, Place::Triple(a, b, c)) => {
+                met.note("6 with three actions", a != b && b != c && a != c);
+                met.note("6 with two actions", a == b || b == c || a == c);
+                met.note("6 late", a > 3);
+            }
+            (7, Place::Byte(index)) => {
+                met.note("7 first", index == 1026);
+                met.note("7 last", index == 1025 + tables[0] as usize);
+            }
+            (8, Place::Triple(a, b, c)) => note_order(&mut met, &tables, (a, b, c)),
+            _ => {}
+        }
+    }
+    met.assert_all();
+}
+
+fn note_length(met: &mut Met, length: usize) {
+    met.note("1 empty", length == 0);
+    met.note("1 one byte less", length == 2304);
+    met.note("1 one byte more", length == 2306);
+}
+
+fn note_entry(met: &mut Met, tables: &[u8], index: usize) {
+    let (n, value) = (tables[0] as usize, tables[index] as usize);
+    let (row, column) = ((index - 1) % 1024 / 32, (index - 1) % 32);
+    let (communication, priority) = (index < 1025, (1025..2049).contains(&index));
+    met.note("3 communication n + 1", communication && value == n + 1);
+    met.note(
+        "3 communication row",
+        communication && row == n + 1 && value <= n,
+    );
+    met.note(
+        "3 communication column",
+        communication && column == n + 1 && value <= n,
+    );
+    met.note("3 priority 2", priority && value == 2);
+    met.note("3 priority row", priority && row > n && value == 1);
+    met.note("3 priority column", priority && column > n && value == 1);
+    met.note(
+        "3 set with dead stop",
+        index >= 2049 && column == 0 && value == 1,
+    );
+    met.note(
+        "3 set column",
+        index >= 2049 && column == n + 1 && value == 1,
+    );
+    met.note("3 set 7", index >= 2049 + 7 * 32);
+    met.note("3 last byte", index == 2304);
+    met.note("3 with 31 actions", n == 31);
+}
+
+fn note_order(met: &mut Met, tables: &[u8], (a, b, c): (u8, u8, u8)) {
+    let reflexive = below(tables, a, a);
+    let asymmetric = !(below(tables, a, b) && below(tables, b, a));
+    met.note("8 reflexive", reflexive && a > 0);
+    met.note("8 dead stop below itself", reflexive && a == 0);
+    met.note("8 not asymmetric", !reflexive && !asymmetric && a > 0);
+    met.note("8 below dead stop", !reflexive && !asymmetric && a == 0);
+    met.note("8 not transitive", !reflexive && asymmetric);
+    met.note(
+        "8 not transitive, c not 0",
+        !reflexive && asymmetric && c > 0,
+    );
+}
+
+#[test]
+fn edges_of_plans() {
+    let (mut random, mut met) = (Random::new(42), Met::default());
+    let mut tables = vec![0; 2305];
+    for _ in 0..6000 {
+        let n = random.between(1, 31) as u8;
+        tables[0] = n;
+        let plan = damaged_plan(&mut random, n);
+        let Err(refusal) = judge_plan(&tables, &plan) else {
+            met.note("accepted though damaged", true);
+            continue;
+        };
+        let last = plan.len().wrapping_sub(1);
+        match (refusal.number, refusal.place) {
+            (11, _) => {
+                met.note("11 empty", plan.is_empty());
+                met.note("11 one word more", plan.len() == LONGEST_PLAN + 1);
+            }
+            (12, Place::Byte(index)) => {
+                met.note("12 first", index == 0);
+                met.note("12 last", index == last);
+                met.note("12 action n + 1", plan[index] == n + 1 && n < 31);
+                for bad in [31, 32, 63, 71, 79, 88, 255] {
+                    met.note(name_of(bad), plan[index] == bad);
+                }
+            }
+            (13, Place::Byte(index)) => {
+                met.note("13 first", index == 0);
+                met.note("13 last", index == last);
+                met.note("13 before 12", plan.iter().any(|&byte| byte > 87));
+            }
+            _ => met.note("14 with the longest plan", plan.len() == LONGEST_PLAN),
+        }
+    }
+    met.assert_all();
+}
+
+fn name_of(byte: u8) -> &'static str {
+    match byte {
+        31 => "12 byte 31",
+        32 => "12 byte 32",
+        63 => "12 byte 63",
+        71 => "12 byte 71",
+        79 => "12 byte 79",
+        88 => "12 byte 88",
+        _ => "12 byte 255",
+    }
+}
+
+#[test]
+fn edges_of_unfolding() {
+    let (mut random, mut met) = (Random::new(43), Met::default());
+    for _ in 0..6000 {
+        let case = unfold_case(&mut random);
+        match case.run().answer {
+            unfolding::Answer::Ended {
+                number,
+                steps,
+                size,
+            } => note_unfolded(&mut met, &case, number, steps, size),
+            unfolding::Answer::Refused(refusal) if refusal.number == 15 => {
+                let room = case.a.len().min(case.b.len());
+                met.note("15 without room", room == 0);
+                met.note("15 by one word", room + 1 == case.plan.len());
+                met.note("15 by area A", case.a.len() < case.b.len());
+                met.note("15 by area B", case.b.len() < case.a.len());
+            }
+            _ => {}
+        }
+    }
+    met.assert_all();
+}
+
+fn note_unfolded(met: &mut Met, case: &UnfoldCase, number: u8, steps: usize, size: usize) {
+    let room = case.a.len().min(case.b.len());
+    met.note("finished without a step", number == 0 && steps == 0);
+    met.note(
+        "finished in A",
+        number == 0 && steps > 0 && steps.is_multiple_of(2),
+    );
+    met.note("finished in B", number == 0 && steps % 2 == 1);
+    met.note("finished after a thousand", number == 0 && steps > 1000);
+    met.note("finished, full area", number == 0 && size == room);
+    met.note(
+        "finished, allowance used",
+        number == 0 && steps == case.allowance as usize,
+    );
+    met.note(
+        "finished, full list",
+        number == 0 && 3 * steps == case.list.len(),
+    );
+    met.note(
+        "finished, list over",
+        number == 0 && !case.list.len().is_multiple_of(3),
+    );
+    met.note("34 without a step", number == 34 && steps == 0);
+    met.note("34 after steps", number == 34 && steps > 0);
+    met.note(
+        "34 before 35",
+        number == 34 && case.list.len() < 3 * steps + 3,
+    );
+    met.note("35 without a list", number == 35 && case.list.is_empty());
+    met.note(
+        "35, one byte over",
+        number == 35 && case.list.len() % 3 == 1,
+    );
+    met.note(
+        "35, two bytes over",
+        number == 35 && case.list.len() % 3 == 2,
+    );
+    met.note("35 after steps", number == 35 && steps > 0);
+    met.note("36 without a step", number == 36 && steps == 0);
+    met.note(
+        "36 in A",
+        number == 36 && steps > 0 && steps.is_multiple_of(2),
+    );
+    met.note("36 in B", number == 36 && steps % 2 == 1);
+    met.note(
+        "36, areas above the longest",
+        number == 36 && room > LONGEST_PLAN,
+    );
+}
+
+#[test]
+fn edges_of_checking() {
+    let (mut random, mut met) = (Random::new(44), Met::default());
+    for _ in 0..12_000 {
+        let case = check_case(&mut random);
+        match case.run().answer {
+            checking::Answer::Accepted { steps, size } => {
+                met.note("accepted without a step", steps == 0);
+                met.note("accepted in A", steps > 0 && steps.is_multiple_of(2));
+                met.note("accepted in B", steps % 2 == 1);
+                met.note(
+                    "accepted, full area",
+                    size == case.a.len().min(case.b.len()),
+                );
+            }
+            checking::Answer::Back {
+                number,
+                steps,
+                size,
+            } => note_back(&mut met, &case, number, steps, size),
+            checking::Answer::Refused(refusal) => {
+                let step = refusal.printed();
+                met.note("17 at the first step", refusal.number == 17 && step == 0);
+                met.note("17 at a later step", refusal.number == 17 && step > 0);
+                note_claimed(&mut met, &case, refusal.number);
+            }
+        }
+    }
+    met.assert_all();
+}
+
+fn note_back(met: &mut Met, case: &CheckCase, number: u8, steps: usize, size: usize) {
+    let room = case.a.len().min(case.b.len()).min(LONGEST_PLAN);
+    if number == 31 {
+        let step = &case.rewriting[3 * steps..3 * steps + 3];
+        let place = step[1] as usize + 256 * step[2] as usize;
+        met.note("31 just past the end", place == size);
+        met.note("31 at 65,535", place == 65_535);
+        met.note("31 within the plan", place < size);
+        met.note("31 at the last word", place + 1 == size);
+        met.note("31 without a step", steps == 0);
+        met.note("31 in A", steps > 0 && steps.is_multiple_of(2));
+        met.note("31 in B", steps % 2 == 1);
+    }
+    met.note("32 without a step", number == 32 && steps == 0);
+    met.note("32 after steps", number == 32 && steps > 0);
+    met.note("33 without a step", number == 33 && steps == 0);
+    met.note("33 after steps", number == 33 && steps > 0);
+    met.note(
+        "33, claim longer than C",
+        number == 33 && case.claimed.len() > room,
+    );
+}
+
+fn note_claimed(met: &mut Met, case: &CheckCase, number: u8) {
+    if number == 18 {
+        let claimed = judge_plan(&case.tables, &case.claimed).unwrap_err().number;
+        met.note("18 for 11", claimed == 11);
+        met.note("18 for 12", claimed == 12);
+        met.note("18 for 13", claimed == 13);
+        met.note("18 for 14", claimed == 14);
+        let room = case.a.len().min(case.b.len());
+        met.note("18 before 15", case.start.len() > room);
+    }
+    let odd = !case.rewriting.len().is_multiple_of(3);
+    met.note("15 before 16", number == 15 && odd);
+    met.note(
+        "16, one byte over",
+        number == 16 && case.rewriting.len() % 3 == 1,
+    );
+    met.note(
+        "16, two bytes over",
+        number == 16 && case.rewriting.len() % 3 == 2,
+    );
+}

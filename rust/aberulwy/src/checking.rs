@@ -1,0 +1,93 @@
+//! The checker.
+
+use crate::{raw, reached, Refusal};
+
+/// What the checker found.
+#[derive(Clone, Copy, Debug, PartialEq, Eq, Hash)]
+pub enum Verdict {
+    /// Every step fits, and the last plan is the claimed one: both plans have the same tree.
+    Accepted,
+    /// 31: the next step's law doesn't fit at its place, or the place is past the end.
+    DoesNotFit,
+    /// 32: the next plan is longer than the areas can hold.
+    TooLong,
+    /// 33: all steps were made, and the last plan is not the claimed one.
+    EndDiffers,
+}
+
+/// A check that was not refused.
+#[derive(Clone, Copy, Debug, PartialEq, Eq, Hash)]
+pub struct Checked {
+    /// What was found.
+    pub verdict: Verdict,
+    /// The steps made. Under 31 and 32 this is the index of the step that was not.
+    pub steps: usize,
+    /// The words of the plan reached.
+    pub size: usize,
+}
+
+impl Checked {
+    /// Whether the rewriting was accepted.
+    pub fn accepted(&self) -> bool {
+        self.verdict == Verdict::Accepted
+    }
+
+    /// The plan reached, a part of area A or B as the steps made are even or odd. The areas
+    /// are those that were lent to the checker.
+    ///
+    /// # Panics
+    ///
+    /// If they are shorter than those.
+    pub fn reached<'t>(&self, a: &'t [u8], b: &'t [u8]) -> &'t [u8] {
+        reached(self.steps, self.size, a, b)
+    }
+}
+
+/// Checks a rewriting: replays its records, three bytes each (law, then place, low byte
+/// first), from the start plan, by all thirty-two laws, and compares the last plan with the
+/// claimed one.
+///
+/// Afterwards one area holds the plan reached ([`Checked::reached`]); the other holds the plan
+/// one step before, or zeros if no step was made. All bytes behind are zero.
+///
+/// # Errors
+///
+/// Refusals 1 to 8; 11 to 14 and 15 for the start plan; 18 for the claimed plan; 16 and 17 for
+/// the rewriting. The areas then keep their bytes.
+///
+/// ```
+/// use aberulwy::{check, Verdict};
+///
+/// let tables = aberulwy::examples::trial_tables();
+/// let (start, claimed) = ([1, 2, 64], [2, 1, 64]);
+/// let (mut a, mut b) = ([0; 8], [0; 8]);
+/// // Law 1 at place 2: x+y to y+x.
+/// let checked = check(&tables, &start, &claimed, &[1, 2, 0], &mut a, &mut b)?;
+/// assert!(checked.accepted());
+/// // Law 4 asks for two equal operands.
+/// let checked = check(&tables, &start, &claimed, &[4, 2, 0], &mut a, &mut b)?;
+/// assert_eq!((checked.verdict, checked.steps), (Verdict::DoesNotFit, 0));
+/// # Ok::<(), aberulwy::Refusal>(())
+/// ```
+pub fn check(
+    tables: &[u8],
+    start: &[u8],
+    claimed: &[u8],
+    rewriting: &[u8],
+    a: &mut [u8],
+    b: &mut [u8],
+) -> Result<Checked, Refusal> {
+    let answer = raw::check(tables, start, claimed, rewriting, a, b);
+    let verdict = match answer.number {
+        0 => Verdict::Accepted,
+        31 => Verdict::DoesNotFit,
+        32 => Verdict::TooLong,
+        33 => Verdict::EndDiffers,
+        number => return Err(Refusal::new(number, answer.place)),
+    };
+    Ok(Checked {
+        verdict,
+        steps: answer.steps,
+        size: answer.size,
+    })
+}

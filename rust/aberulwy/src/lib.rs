@@ -1,0 +1,72 @@
+//! Safe calls into Aberulwy, a proved library of process algebra.
+//!
+//! The library judges *tables* (2,305 bytes: communication, priority, blocked sets) and
+//! *plans* (postfix words, one byte each), unfolds a plan to a basic one by laws 5 to 32,
+//! records the steps, checks anybody's rewriting by all thirty-two laws, and reads station
+//! files. Every call takes slices of any length; what is malformed is refused with a number
+//! and a place, and then no lent byte is changed. Nothing is allocated.
+//!
+//! ```
+//! use aberulwy::{unfold, Ending};
+//!
+//! let tables = aberulwy::examples::trial_tables();
+//! // Action 1 merged with action 2.
+//! let plan = [1, 2, 66];
+//! let (mut list, mut a, mut b) = ([0; 300], [0; 64], [0; 64]);
+//! let unfolded = unfold(&tables, &plan, u32::MAX, &mut list, &mut a, &mut b)?;
+//! assert_eq!(unfolded.ending, Ending::Finished);
+//! // 1·2 + 2·1 + 3: one after the other in either order, or together as action 3.
+//! assert_eq!(unfolded.reached(&a, &b), [1, 2, 65, 2, 1, 65, 64, 3, 64]);
+//! // Four steps, each a law and the place of the subplan it was used on.
+//! let steps: Vec<_> = unfolded.records(&list).collect();
+//! assert_eq!(steps, [(11, 2), (12, 2), (12, 5), (10, 9)]);
+//! # Ok::<(), aberulwy::Refusal>(())
+//! ```
+//!
+//! # Words
+//!
+//! 0 to n are actions, 0 being dead stop; 64 is choice, 65 product, 66 merge, 67 left merge,
+//! 68 communication merge, 69 unless, each of two operands; 70 is priority and 80 to 87 are
+//! encapsulation by set 0 to 7, each of one. Any other byte is no word.
+//!
+//! # Stack
+//!
+//! A call needs a few hundred kilobytes of stack. The default of a Rust thread (2 MiB) is
+//! enough.
+//!
+//! # Linking
+//!
+//! The archive `libexports.a` is written by `rt staticlib exports` in the repository's root.
+//! It is found in `target/staticlib` there, or in the folder that `ABERULWY_ARCHIVE_DIR`
+//! names.
+
+#![deny(unsafe_code)]
+#![warn(missing_docs)]
+
+mod checking;
+pub mod examples;
+mod judging;
+pub mod raw;
+mod refusals;
+mod stations;
+mod unfolding;
+
+pub use checking::{check, Checked, Verdict};
+pub use judging::{count_orders, is_basic, judge_plan, judge_tables};
+pub use refusals::{Place, Refusal};
+pub use stations::read_station;
+pub use unfolding::{unfold, Ending, Unfolded};
+
+/// The bytes of tables.
+pub const TABLES_LENGTH: usize = 2305;
+/// The words of the longest plan.
+pub const LONGEST_PLAN: usize = 16_384;
+/// The bytes of one record: law, then place, low byte first.
+pub const RECORD: usize = 3;
+
+/// The plan reached: a part of area A after an even number of steps, of area B after an odd
+/// one.
+fn reached<'t>(steps: usize, size: usize, a: &'t [u8], b: &'t [u8]) -> &'t [u8] {
+    let area = if steps.is_multiple_of(2) { a } else { b };
+    &area[..size]
+}

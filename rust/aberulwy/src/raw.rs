@@ -1,0 +1,291 @@
+//! The exported calls with their answers as they come: a number of document 01 and every
+//! number that the call sets. The crate's other functions are these with named answers.
+//!
+//! All of the crate's unsafe code is here. Each call hands over slices that Rust has
+//! borrowed, a slice as a pointer and a length. The archive's functions are proved for
+//! slices of every length, write to the mutable ones alone, and keep no pointer; the
+//! mutable slices of one call never overlap, since Rust lends them apart.
+
+#![allow(unsafe_code)]
+
+/// What a number holds before the call that is to set it; no call answers it.
+const NOT_SET: usize = usize::MAX;
+
+/// The answer of a call that only judges.
+#[derive(Clone, Copy, Debug, PartialEq, Eq)]
+pub struct Judged {
+    /// 0, or the number of the refusal.
+    pub number: u8,
+    /// The printed place of the refusal; 0 where none is named.
+    pub place: usize,
+}
+
+/// The answer of a call that computes one number.
+#[derive(Clone, Copy, Debug, PartialEq, Eq)]
+pub struct Counted {
+    /// 0, or the number of the refusal.
+    pub number: u8,
+    /// What was asked for; 0 where refused.
+    pub value: usize,
+    /// The printed place of the refusal; 0 where none is named.
+    pub place: usize,
+}
+
+/// The answer of a call that makes steps.
+#[derive(Clone, Copy, Debug, PartialEq, Eq)]
+pub struct Ended {
+    /// 0, or the number of the refusal or of the ending.
+    pub number: u8,
+    /// The steps made; 0 where refused.
+    pub steps: usize,
+    /// The words of the plan reached; 0 where refused.
+    pub size: usize,
+    /// The printed place of the refusal; 0 where none is named.
+    pub place: usize,
+}
+
+/// The archive's functions.
+mod archive {
+    extern "C" {
+        pub fn aberulwy_judge_tables(tables: *const u8, tables_len: usize, place: *mut usize)
+            -> u8;
+
+        pub fn aberulwy_judge_plan(
+            tables: *const u8,
+            tables_len: usize,
+            plan: *const u8,
+            plan_len: usize,
+            place: *mut usize,
+        ) -> u8;
+
+        pub fn aberulwy_is_basic(
+            tables: *const u8,
+            tables_len: usize,
+            plan: *const u8,
+            plan_len: usize,
+            basic: *mut usize,
+            place: *mut usize,
+        ) -> u8;
+
+        pub fn aberulwy_count_orders(
+            tables: *const u8,
+            tables_len: usize,
+            plan: *const u8,
+            plan_len: usize,
+            orders: *mut usize,
+            place: *mut usize,
+        ) -> u8;
+
+        pub fn aberulwy_unfold(
+            tables: *const u8,
+            tables_len: usize,
+            plan: *const u8,
+            plan_len: usize,
+            allowance: u32,
+            list: *mut u8,
+            list_len: usize,
+            a: *mut u8,
+            a_len: usize,
+            b: *mut u8,
+            b_len: usize,
+            steps: *mut usize,
+            size: *mut usize,
+            place: *mut usize,
+        ) -> u8;
+
+        pub fn aberulwy_check(
+            tables: *const u8,
+            tables_len: usize,
+            start: *const u8,
+            start_len: usize,
+            claimed: *const u8,
+            claimed_len: usize,
+            rewriting: *const u8,
+            rewriting_len: usize,
+            a: *mut u8,
+            a_len: usize,
+            b: *mut u8,
+            b_len: usize,
+            steps: *mut usize,
+            size: *mut usize,
+            place: *mut usize,
+        ) -> u8;
+
+        pub fn aberulwy_read_station(
+            file: *const u8,
+            file_len: usize,
+            tables_area: *mut u8,
+            tables_area_len: usize,
+            plan_area: *mut u8,
+            plan_area_len: usize,
+            size: *mut usize,
+            place: *mut usize,
+        ) -> u8;
+    }
+}
+
+/// Judges tables: 0, or 1 to 8.
+pub fn judge_tables(tables: &[u8]) -> Judged {
+    let mut place = NOT_SET;
+    // SAFETY: see the head of this file.
+    let number =
+        unsafe { archive::aberulwy_judge_tables(tables.as_ptr(), tables.len(), &mut place) };
+    Judged { number, place }
+}
+
+/// Judges tables, then a plan: 0, or 1 to 8, 11 to 14.
+pub fn judge_plan(tables: &[u8], plan: &[u8]) -> Judged {
+    let mut place = NOT_SET;
+    // SAFETY: see the head of this file.
+    let number = unsafe {
+        archive::aberulwy_judge_plan(
+            tables.as_ptr(),
+            tables.len(),
+            plan.as_ptr(),
+            plan.len(),
+            &mut place,
+        )
+    };
+    Judged { number, place }
+}
+
+/// Whether a plan is basic (1) or not (0), after judging as [`judge_plan`] does.
+pub fn is_basic(tables: &[u8], plan: &[u8]) -> Counted {
+    let (mut value, mut place) = (NOT_SET, NOT_SET);
+    // SAFETY: see the head of this file.
+    let number = unsafe {
+        archive::aberulwy_is_basic(
+            tables.as_ptr(),
+            tables.len(),
+            plan.as_ptr(),
+            plan.len(),
+            &mut value,
+            &mut place,
+        )
+    };
+    Counted {
+        number,
+        value,
+        place,
+    }
+}
+
+/// The orders of a plan, after judging as [`judge_plan`] does.
+pub fn count_orders(tables: &[u8], plan: &[u8]) -> Counted {
+    let (mut value, mut place) = (NOT_SET, NOT_SET);
+    // SAFETY: see the head of this file.
+    let number = unsafe {
+        archive::aberulwy_count_orders(
+            tables.as_ptr(),
+            tables.len(),
+            plan.as_ptr(),
+            plan.len(),
+            &mut value,
+            &mut place,
+        )
+    };
+    Counted {
+        number,
+        value,
+        place,
+    }
+}
+
+/// Unfolds a plan: 0, or 34 to 36; or 1 to 8, 11 to 15 with every lent byte kept.
+pub fn unfold(
+    tables: &[u8],
+    plan: &[u8],
+    allowance: u32,
+    list: &mut [u8],
+    a: &mut [u8],
+    b: &mut [u8],
+) -> Ended {
+    let (mut steps, mut size, mut place) = (NOT_SET, NOT_SET, NOT_SET);
+    // SAFETY: see the head of this file.
+    let number = unsafe {
+        archive::aberulwy_unfold(
+            tables.as_ptr(),
+            tables.len(),
+            plan.as_ptr(),
+            plan.len(),
+            allowance,
+            list.as_mut_ptr(),
+            list.len(),
+            a.as_mut_ptr(),
+            a.len(),
+            b.as_mut_ptr(),
+            b.len(),
+            &mut steps,
+            &mut size,
+            &mut place,
+        )
+    };
+    Ended {
+        number,
+        steps,
+        size,
+        place,
+    }
+}
+
+/// Checks a rewriting: 0, or 31 to 33; or 1 to 8, 11 to 18 with every lent byte kept.
+pub fn check(
+    tables: &[u8],
+    start: &[u8],
+    claimed: &[u8],
+    rewriting: &[u8],
+    a: &mut [u8],
+    b: &mut [u8],
+) -> Ended {
+    let (mut steps, mut size, mut place) = (NOT_SET, NOT_SET, NOT_SET);
+    // SAFETY: see the head of this file.
+    let number = unsafe {
+        archive::aberulwy_check(
+            tables.as_ptr(),
+            tables.len(),
+            start.as_ptr(),
+            start.len(),
+            claimed.as_ptr(),
+            claimed.len(),
+            rewriting.as_ptr(),
+            rewriting.len(),
+            a.as_mut_ptr(),
+            a.len(),
+            b.as_mut_ptr(),
+            b.len(),
+            &mut steps,
+            &mut size,
+            &mut place,
+        )
+    };
+    Ended {
+        number,
+        steps,
+        size,
+        place,
+    }
+}
+
+/// Reads a station file, and answers the plan's length: 0; or 51 to 55, 1 to 8, 11 to 14
+/// with every lent byte kept.
+pub fn read_station(file: &[u8], tables_area: &mut [u8], plan_area: &mut [u8]) -> Counted {
+    let (mut value, mut place) = (NOT_SET, NOT_SET);
+    // SAFETY: see the head of this file.
+    let number = unsafe {
+        archive::aberulwy_read_station(
+            file.as_ptr(),
+            file.len(),
+            tables_area.as_mut_ptr(),
+            tables_area.len(),
+            plan_area.as_mut_ptr(),
+            plan_area.len(),
+            &mut value,
+            &mut place,
+        )
+    };
+    Counted {
+        number,
+        value,
+        place,
+    }
+}

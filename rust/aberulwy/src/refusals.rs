@@ -1,0 +1,120 @@
+//! Refusals: a number and a place.
+
+use std::error::Error;
+use std::fmt;
+
+/// Why something handed in was turned back: document 01's number, and where.
+///
+/// ```
+/// let refusal = aberulwy::judge_tables(&[]).unwrap_err();
+/// assert_eq!(refusal.number(), 1);
+/// assert_eq!(refusal.place(), aberulwy::Place::Nowhere);
+/// assert_eq!(refusal.to_string(), "refused 1 0: the tables are not 2,305 bytes");
+/// ```
+#[derive(Clone, Copy, Debug, PartialEq, Eq, Hash)]
+pub struct Refusal {
+    number: u8,
+    printed: usize,
+}
+
+/// Where a refusal was met.
+#[derive(Clone, Copy, Debug, PartialEq, Eq, Hash)]
+pub enum Place {
+    /// The refusal names no place.
+    Nowhere,
+    /// The index of a byte of the tables or of the plan.
+    Byte(usize),
+    /// Three actions, in the order in which the law has them.
+    Triple(u8, u8, u8),
+    /// The index of a step of the rewriting, from 0.
+    Step(usize),
+}
+
+impl Refusal {
+    pub(crate) fn new(number: u8, printed: usize) -> Refusal {
+        Refusal { number, printed }
+    }
+
+    /// The number under which document 01 lists the refusal.
+    pub fn number(self) -> u8 {
+        self.number
+    }
+
+    /// The place as one number, as the program prints it: a triple as 1,024a + 32b + c, and
+    /// 0 where none is named.
+    pub fn printed(self) -> usize {
+        self.printed
+    }
+
+    /// The place.
+    pub fn place(self) -> Place {
+        match self.number {
+            3 | 4 | 5 | 7 | 12 | 13 => Place::Byte(self.printed),
+            6 | 8 => Place::Triple(
+                (self.printed / 1024) as u8,
+                (self.printed / 32 % 32) as u8,
+                (self.printed % 32) as u8,
+            ),
+            17 => Place::Step(self.printed),
+            _ => Place::Nowhere,
+        }
+    }
+
+    /// The reason in words.
+    pub fn reason(self) -> &'static str {
+        match self.number {
+            1 => "the tables are not 2,305 bytes",
+            2 => "the count of actions is not 1 to 31",
+            3 => "an entry of the tables is out of range",
+            4 => "dead stop communicates",
+            5 => "communication is not commutative",
+            6 => "communication is not associative",
+            7 => "dead stop is not below every action",
+            8 => "priority is not a strict partial order",
+            11 => "the plan is empty or has more than 16,384 words",
+            12 => "a byte of the plan is no word",
+            13 => "a word of the plan has too few operands",
+            14 => "more than one plan is left over",
+            15 => "the plan is longer than the areas can hold",
+            16 => "the rewriting is not made of three-byte records",
+            17 => "a record of the rewriting names no law",
+            18 => "the claimed plan is no plan",
+            51 => "the file is not 6 to 38 blocks long",
+            52 => "a block's sum is wrong",
+            53 => "a block's number is wrong",
+            54 => "a block's kind, count or filling is wrong",
+            55 => "an area is too small for the file's tables or plan",
+            _ => "an unlisted reason",
+        }
+    }
+}
+
+impl fmt::Display for Refusal {
+    /// `refused N P`, as the program prints it, and the reason.
+    fn fmt(&self, f: &mut fmt::Formatter<'_>) -> fmt::Result {
+        let (number, printed) = (self.number, self.printed);
+        write!(f, "refused {number} {printed}: {}", self.reason())
+    }
+}
+
+impl Error for Refusal {}
+
+#[cfg(test)]
+mod tests {
+    use super::*;
+
+    #[test]
+    fn places_by_number() {
+        assert_eq!(
+            Refusal::new(6, 1024 + 64 + 3).place(),
+            Place::Triple(1, 2, 3)
+        );
+        assert_eq!(
+            Refusal::new(8, 31 * 1057).place(),
+            Place::Triple(31, 31, 31)
+        );
+        assert_eq!(Refusal::new(12, 7).place(), Place::Byte(7));
+        assert_eq!(Refusal::new(17, 7).place(), Place::Step(7));
+        assert_eq!(Refusal::new(55, 0).place(), Place::Nowhere);
+    }
+}

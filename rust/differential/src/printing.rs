@@ -1,0 +1,111 @@
+//! Cases and differences as text.
+
+use crate::cases::{Case, Outcome};
+use crate::compare::{Agreement, Difference};
+use std::fmt;
+
+/// Bytes: as they are, or in short where there are many and all are the same.
+struct Bytes<'t>(&'t [u8]);
+
+impl fmt::Display for Bytes<'_> {
+    fn fmt(&self, f: &mut fmt::Formatter<'_>) -> fmt::Result {
+        let bytes = self.0;
+        match bytes.first() {
+            Some(first) if bytes.len() > 4 && bytes.iter().all(|byte| byte == first) => {
+                write!(f, "[{first}; {}]", bytes.len())
+            }
+            _ => write!(f, "{bytes:?}"),
+        }
+    }
+}
+
+/// Bytes most of which are zero: the length, and what is not.
+struct Sparse<'t>(&'t [u8]);
+
+impl fmt::Display for Sparse<'_> {
+    fn fmt(&self, f: &mut fmt::Formatter<'_>) -> fmt::Result {
+        write!(f, "{} bytes, zero but", self.0.len())?;
+        for (index, byte) in self.0.iter().enumerate().filter(|(_, &byte)| byte != 0) {
+            write!(f, " {index}:{byte}")?;
+        }
+        Ok(())
+    }
+}
+
+impl fmt::Display for Case {
+    fn fmt(&self, f: &mut fmt::Formatter<'_>) -> fmt::Result {
+        match self {
+            Case::JudgeTables(tables) => {
+                writeln!(f, "judge_tables")?;
+                writeln!(f, "  tables: {}", Sparse(tables))
+            }
+            Case::JudgePlan(tables, plan) => judged(f, "judge_plan", tables, plan),
+            Case::IsBasic(tables, plan) => judged(f, "is_basic", tables, plan),
+            Case::CountOrders(tables, plan) => judged(f, "count_orders", tables, plan),
+            Case::Unfold(case) => {
+                judged(f, "unfold", &case.tables, &case.plan)?;
+                writeln!(f, "  allowance: {}", case.allowance)?;
+                writeln!(f, "  list: {}", Bytes(&case.list))?;
+                writeln!(f, "  a: {}", Bytes(&case.a))?;
+                writeln!(f, "  b: {}", Bytes(&case.b))
+            }
+            Case::Check(case) => {
+                judged(f, "check", &case.tables, &case.start)?;
+                writeln!(f, "  claimed: {}", Bytes(&case.claimed))?;
+                writeln!(f, "  rewriting: {}", Bytes(&case.rewriting))?;
+                writeln!(f, "  a: {}", Bytes(&case.a))?;
+                writeln!(f, "  b: {}", Bytes(&case.b))
+            }
+            Case::ReadStation(case) => {
+                writeln!(f, "read_station")?;
+                writeln!(f, "  file: {}", Sparse(&case.file))?;
+                writeln!(f, "  tables area: {}", Bytes(&case.tables))?;
+                writeln!(f, "  plan area: {}", Bytes(&case.plan))
+            }
+        }
+    }
+}
+
+fn judged(f: &mut fmt::Formatter<'_>, call: &str, tables: &[u8], plan: &[u8]) -> fmt::Result {
+    writeln!(f, "{call}")?;
+    writeln!(f, "  tables: {}", Sparse(tables))?;
+    writeln!(f, "  plan: {}", Bytes(plan))
+}
+
+impl fmt::Display for Outcome {
+    fn fmt(&self, f: &mut fmt::Formatter<'_>) -> fmt::Result {
+        let (number, place) = (self.answer.number, self.answer.place);
+        write!(
+            f,
+            "number {number}, values {:?}, place {place}",
+            self.answer.values
+        )?;
+        for lent in &self.lent {
+            write!(f, "\n    {}", Bytes(lent))?;
+        }
+        Ok(())
+    }
+}
+
+impl fmt::Display for Difference {
+    fn fmt(&self, f: &mut fmt::Formatter<'_>) -> fmt::Result {
+        writeln!(
+            f,
+            "difference in the case of seed {}, made smaller:",
+            self.seed
+        )?;
+        write!(f, "{}", self.case)?;
+        writeln!(f, "  first: {}", self.first)?;
+        writeln!(f, "  second: {}", self.second)
+    }
+}
+
+impl fmt::Display for Agreement {
+    fn fmt(&self, f: &mut fmt::Formatter<'_>) -> fmt::Result {
+        write!(f, "cases by number:")?;
+        for (number, count) in &self.numbers {
+            write!(f, " {number}×{count}")?;
+        }
+        writeln!(f)
+    }
+}

@@ -1,0 +1,311 @@
+//! The comparison finds damage: copies of the reference, each with one constant changed.
+
+use differential::{compare, Answer, Case, Implementation, Reference};
+use reference::random::Random;
+use std::collections::BTreeSet;
+
+/// The constant that is changed in a copy.
+#[derive(Clone, Copy, Debug, PartialEq, Eq)]
+enum Damage {
+    /// Nothing is changed.
+    Nothing,
+    /// 30 actions at most instead of 31.
+    MostActions,
+    /// A refused triple's last action counts 0 instead of 1.
+    TripleWeight,
+    /// 16,383 words at most instead of 16,384 when a plan is judged.
+    LongestPlan,
+    /// The count of operands of 87 is 2 instead of 1 when a plan is judged.
+    LastSign,
+    /// Dead stop alone is not basic.
+    DeadStopBasic,
+    /// Dead stop counts 0 orders instead of 1.
+    DeadStopOrders,
+    /// An allowance above 0 counts one less.
+    Allowance,
+    /// A step needs four free bytes of the list instead of three.
+    Record,
+    /// The areas hold 16,383 words at most instead of 16,384.
+    Room,
+    /// Law 10's table entry is 0.
+    Communication,
+    /// Set 7 is empty.
+    LastSet,
+    /// The last byte of area B is not set to 0.
+    Filling,
+    /// The other area of an unfolding without a step has a 1 in it.
+    NoStep,
+    /// Law 32 is none in a rewriting.
+    Laws,
+    /// The second byte of a place counts 255 instead of 256.
+    PlaceWeight,
+    /// The claimed plan's last word is not compared.
+    Claim,
+    /// The steps of the checker begin at 1.
+    FirstStep,
+    /// A file has 37 blocks at most instead of 38.
+    MostBlocks,
+    /// The number 52 is 53.
+    Sum,
+    /// The plan area is not cleared behind the plan.
+    PlanFilling,
+}
+
+use Damage::*;
+
+const ALL: [Damage; 20] = [
+    MostActions,
+    TripleWeight,
+    LongestPlan,
+    LastSign,
+    DeadStopBasic,
+    DeadStopOrders,
+    Allowance,
+    Record,
+    Room,
+    Communication,
+    LastSet,
+    Filling,
+    NoStep,
+    Laws,
+    PlaceWeight,
+    Claim,
+    FirstStep,
+    MostBlocks,
+    Sum,
+    PlanFilling,
+];
+
+/// The reference with damage.
+struct Damaged(Damage);
+
+/// A refusal without a place.
+fn refusal(number: u8) -> Answer {
+    Answer::ended(number, [0, 0])
+}
+
+/// Whether the slices kept their bytes and were not looked at otherwise.
+fn is_refusal(answer: Answer) -> bool {
+    !matches!(answer.number, 0 | 31..=36)
+}
+
+impl Damaged {
+    /// The tables as the damaged copy reads them when laws are used.
+    fn read(&self, tables: &[u8]) -> Vec<u8> {
+        let mut read = tables.to_vec();
+        if reference::tables::judge_tables(tables).is_ok() {
+            match self.0 {
+                Communication => read[1..1025].fill(0),
+                LastSet => read[2273..].fill(0),
+                _ => {}
+            }
+        }
+        read
+    }
+}
+
+impl Implementation for Damaged {
+    fn judge_tables(&self, tables: &[u8]) -> Answer {
+        let mut answer = Reference.judge_tables(tables);
+        match self.0 {
+            MostActions if tables.len() == 2305 && tables[0] == 31 => return refusal(2),
+            TripleWeight if [6, 8].contains(&answer.number) => answer.place &= !31,
+            _ => {}
+        }
+        answer
+    }
+
+    fn judge_plan(&self, tables: &[u8], plan: &[u8]) -> Answer {
+        let answer = Reference.judge_plan(tables, plan);
+        match self.0 {
+            LongestPlan if answer.number == 0 && plan.len() == 16_384 => refusal(11),
+            LastSign if answer.number == 0 && plan == [plan[0], 87] => Answer {
+                number: 13,
+                values: [0, 0],
+                place: 1,
+            },
+            _ => answer,
+        }
+    }
+
+    fn is_basic(&self, tables: &[u8], plan: &[u8]) -> Answer {
+        match self.0 {
+            DeadStopBasic if plan == [0] => Answer::ended(0, [0, 0]),
+            _ => Reference.is_basic(tables, plan),
+        }
+    }
+
+    fn count_orders(&self, tables: &[u8], plan: &[u8]) -> Answer {
+        let mut answer = Reference.count_orders(tables, plan);
+        if self.0 == DeadStopOrders && answer.values[0] > 0 {
+            answer.values[0] -= plan.iter().filter(|&&word| word == 0).count();
+        }
+        answer
+    }
+
+    fn unfold(
+        &self,
+        tables: &[u8],
+        plan: &[u8],
+        allowance: u32,
+        list: &mut [u8],
+        a: &mut [u8],
+        b: &mut [u8],
+    ) -> Answer {
+        let allowance = match self.0 {
+            Allowance => allowance.saturating_sub(1),
+            _ => allowance,
+        };
+        let shown = match self.0 {
+            Record if !list.is_empty() => list.len() - 1,
+            _ => list.len(),
+        };
+        let room = match self.0 {
+            Room => a.len().min(16_383),
+            _ => a.len(),
+        };
+        let last = b.last().copied();
+        let read = self.read(tables);
+        let answer = Reference.unfold(
+            &read,
+            plan,
+            allowance,
+            &mut list[..shown],
+            &mut a[..room],
+            b,
+        );
+        if !is_refusal(answer) {
+            list[shown..].fill(0);
+            a[room..].fill(0);
+            match (self.0, b.last_mut()) {
+                (Filling, Some(byte)) => *byte = last.unwrap_or(0),
+                (NoStep, Some(byte)) if answer.values[0] == 0 => *byte = 1,
+                _ => {}
+            }
+        }
+        answer
+    }
+
+    fn check(
+        &self,
+        tables: &[u8],
+        start: &[u8],
+        claimed: &[u8],
+        rewriting: &[u8],
+        a: &mut [u8],
+        b: &mut [u8],
+    ) -> Answer {
+        let mut read = rewriting.to_vec();
+        for record in read.chunks_exact_mut(3) {
+            match self.0 {
+                Laws if record[0] == 32 => record[0] = 33,
+                PlaceWeight if record[2] > 0 => {
+                    let place = 255 * record[2] as usize + record[1] as usize;
+                    record[1] = (place % 256) as u8;
+                    record[2] = (place / 256) as u8;
+                }
+                _ => {}
+            }
+        }
+        let mut answer = Reference.check(tables, start, claimed, &read, a, b);
+        let [steps, size] = answer.values;
+        match self.0 {
+            Claim if answer.number == 33 && size == claimed.len() => {
+                let reached = if steps % 2 == 0 { &a } else { &b };
+                if reached[..size - 1] == claimed[..size - 1] {
+                    answer.number = 0;
+                }
+            }
+            FirstStep if answer.number == 17 => answer.place += 1,
+            _ => {}
+        }
+        answer
+    }
+
+    fn read_station(&self, file: &[u8], tables_area: &mut [u8], plan_area: &mut [u8]) -> Answer {
+        let before = plan_area.to_vec();
+        if self.0 == MostBlocks && file.len() == 38 * 512 {
+            return refusal(51);
+        }
+        let mut answer = Reference.read_station(file, tables_area, plan_area);
+        match self.0 {
+            Sum if answer.number == 52 => answer.number = 53,
+            PlanFilling if answer.number == 0 => {
+                let size = answer.values[0];
+                plan_area[size..].copy_from_slice(&before[size..]);
+            }
+            _ => {}
+        }
+        answer
+    }
+}
+
+#[test]
+fn an_undamaged_copy_agrees() {
+    let agreement = compare(&Reference, &Damaged(Nothing), 4000, 1).unwrap();
+    assert_eq!(agreement.numbers.values().sum::<u64>(), 4000);
+    // Every number but some rare ones comes up.
+    let met: Vec<u8> = agreement.numbers.into_keys().collect();
+    let listed = (1..=8).chain(11..=18).chain(31..=36).chain(51..=55);
+    for number in listed {
+        assert!(met.contains(&number), "{number}");
+    }
+}
+
+#[test]
+fn every_damage_is_found() {
+    for damage in ALL {
+        let found = compare(&Reference, &Damaged(damage), 40_000, 2);
+        let difference = found.expect_err(&format!("{damage:?} is found"));
+        assert_ne!(difference.first, difference.second, "{damage:?}");
+    }
+}
+
+#[test]
+fn a_difference_is_made_small_and_printed() {
+    let difference = compare(&Reference, &Damaged(Allowance), 10_000, 3).unwrap_err();
+    let Case::Unfold(case) = &difference.case else {
+        panic!("{difference}");
+    };
+    // A smallest plan that takes a step, and the least of everything else.
+    let words = case.plan.len();
+    assert!(words <= 3, "{difference}");
+    assert_eq!((case.allowance, case.list.len()), (1, 0));
+    assert_eq!((case.a.len(), case.b.len()), (words, words));
+    let printed = difference.to_string();
+    assert!(printed.contains("allowance: 1\n"), "{printed}");
+    assert!(printed.contains("  first: number 35, values [0, "));
+    assert!(printed.contains("  second: number 34, values [0, "));
+}
+
+#[test]
+fn every_law_is_used() {
+    let (mut unfolded, mut checked) = (BTreeSet::new(), BTreeSet::new());
+    for seed in 0..6000 {
+        let case = Case::draw(seed);
+        let outcome = case.run(&Reference);
+        let steps = outcome.answer.values[0];
+        match case {
+            Case::Unfold(_) => unfolded.extend(laws(&outcome.lent[0], steps)),
+            Case::Check(case) => checked.extend(laws(&case.rewriting, steps)),
+            _ => {}
+        }
+    }
+    assert_eq!(unfolded, (5..=32).collect());
+    assert_eq!(checked, (1..=32).collect());
+}
+
+/// The laws of the first so many records.
+fn laws(records: &[u8], steps: usize) -> Vec<u8> {
+    records.chunks(3).take(steps).map(|step| step[0]).collect()
+}
+
+#[test]
+fn the_same_seed_draws_the_same_case() {
+    let mut random = Random::new(4);
+    for _ in 0..100 {
+        let seed = random.number();
+        let (one, other) = (Case::draw(seed), Case::draw(seed));
+        assert_eq!(one.to_string(), other.to_string());
+    }
+}
