@@ -16,7 +16,8 @@ use Rattle.plans.specs.Term.{Term, act, un, bin, words, push, read}
 use Rattle.plans.specs.Place.{subterm}
 use Rattle.plans.specs.Start.{begins, start-of}
 use Rattle.plans.proofs.Options.{never, and-then-some}
-use Rattle.plans.proofs.Reading.{spell, Over-all, read-append, read-spell, read-said}
+use Rattle.plans.specs.Stack.{spell}
+use Rattle.plans.proofs.Reading.{Over-all, read-append, read-spell, read-said}
 use Rattle.plans.proofs.Place.{stack-subterm}
 use Rattle.plans.proofs.Start.{start-prefix}
 use Rattle.plans.proofs.Accepted.{words-some}

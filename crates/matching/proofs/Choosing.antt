@@ -60,7 +60,7 @@ bounded w =
     (bounded-choice (eqb w 70) _ _ (omega arith) (bounded-choice (leb 80 w && leb w 87) _ _ (omega arith) (omega arith))))))))
 
 -- The range that a term's last word gives is enough: the left sides of all other laws have another sign at the root.
-enough : (t : Tables) (n : ℕ) → n ≤ 31 → (u : Term) → Over n u → (r : Range) → laws-of (last u) ≡ r → first-law t (r .low) (suc (r .high) - r .low) u ≡ first-law t 5 28 u
+pub enough : (t : Tables) (n : ℕ) → n ≤ 31 → (u : Term) → Over n u → (r : Range) → laws-of (last u) ≡ r → first-law t (r .low) (suc (r .high) - r .low) u ≡ first-law t 5 28 u
 unfolding laws-of binary-word unary-word first-law rewrite law-at laws fit
 enough t n few (act a) h r e = rw (← e, laws-far a (λ l m. omega arith), lt-leb 80 a (omega arith))
 enough t n few (un Priority x) h r e = rw (← e)

@@ -8,4 +8,10 @@ pub mod Sides
 mod Rewriting
 pub mod Choosing
 mod LawTables
+mod Agenda
+mod Binding
+mod Rooting
 mod Writing
+mod Entries
+mod BuildingAt
+mod ChoosingAt

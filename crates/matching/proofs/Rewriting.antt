@@ -57,7 +57,7 @@ needs-letters a-not-in-set L = L 5 && L 3
 needs-letters a-below-b L = L 3 && L 4
 needs-letters a-not-below-b L = L 3 && L 4
 
-abbrev check-for : Condition → Check
+abbrev pub check-for : Condition → Check
 check-for always = Always
 check-for same-words = Same
 check-for a-in-set = InSet
@@ -160,7 +160,7 @@ module _ (k : ℕ) (low : 1 ≤ k) (high : k ≤ 32) where
   unfolding well L
   is-needed = and-left _ _ (and-right (covered (law-at k .rhs) L) _ (and-right (plain (law-at k .lhs)) _ all))
 
-  is-check : check-at k ≡ check-for (law-at k .when)
+  pub is-check : check-at k ≡ check-for (law-at k .when)
   unfolding well L
   is-check = same-check _ _ (and-right (needs-letters (law-at k .when) L) _ (and-right (covered (law-at k .rhs) L) _ (and-right (plain (law-at k .lhs)) _ all)))
 

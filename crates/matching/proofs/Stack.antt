@@ -11,7 +11,8 @@ use Rattle.plans.specs.Word.{binary-word, unary-word}
 use Rattle.plans.specs.Term.{Term, act, un, bin, words, read}
 use Rattle.plans.specs.Place.{subterm}
 use Rattle.plans.proofs.Options.{and-then-some}
-use Rattle.plans.proofs.Reading.{spell, Over-all, read-append, read-spell, read-said}
+use Rattle.plans.specs.Stack.{spell}
+use Rattle.plans.proofs.Reading.{Over-all, read-append, read-spell, read-said}
 use Rattle.plans.specs.Start.{start-of}
 use Rattle.matching.specs.Start.{Readable, Ready}
 use Rattle.matching.specs.Check.{part}

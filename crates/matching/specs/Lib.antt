@@ -3,3 +3,4 @@ pub mod Left
 pub mod Check
 pub mod Right
 pub mod Choice
+pub mod Slots

@@ -7,7 +7,7 @@ ghost use Rattle.matching.specs.Start.{Ready};
 ghost use Rattle.matching.specs.Left.{back, next-of, slot-of, match-words, Matched};
 
 // The left sides of the laws, each from its last word to its first. Letters x, y, z, a, b are 96 to 100, and ∂, whose set is a letter too, is 101.
-const LEFT: [u8; 129] = [
+pub const LEFT: [u8; 129] = [
     64, // 1: x + y
     97,
     96,
@@ -140,7 +140,7 @@ const LEFT: [u8; 129] = [
 ];
 
 // Where the left side of each law starts, and where the last ends.
-const LEFT_AT: [u8; 33] = [
+pub const LEFT_AT: [u8; 33] = [
     0,
     3,
     8,

@@ -4,6 +4,7 @@
 mod condition;
 mod left;
 mod right;
+mod root;
 
 ghost use mathlib.Core.Path.{_≡_};
 ghost use Prim.Native.Nat.{_+_, _≤_, _<_};
@@ -12,6 +13,10 @@ ghost use Rattle.areas.specs.Area.{overwrite};
 ghost use Rattle.matching.specs.Start.{Ready};
 ghost use Rattle.matching.specs.Right.{spelled-law, law-size, Reaches};
 ghost use Rattle.matching.specs.Choice.{law-term, Tried, first-term, Chosen, laws-of};
+ghost use Rattle.tables.specs.Tables.{actions};
+ghost use Rattle.tables.specs.Lawful.{Lawful};
+ghost use Rattle.graph.specs.Graph.{graph, Nodes};
+ghost use Rattle.matching.specs.Slots.{RootTerm, ChosenRoot, Slots, SideSize, SizesReach, ActionSlots, side-entries};
 
 // Tries a law at the last word. If it fits, its letters reach over the plan's words between from and to.
 pub fn law_fits(
@@ -117,4 +122,73 @@ pub fn put_side(
     let low = right::RIGHT_AT[i - 1] as usize;
     let high = right::RIGHT_AT[i] as usize;
     right::put_words(&table[low..high], entry, plan, from, to, dst, at)
+}
+
+// The lowest of laws 5 to 32 that fits at the root of a term in a graph, an operator's word and the entries of its operands, or 0. The letters
+// of the law are then in the slots.
+pub fn first_law_at(
+    tables: &[u8],
+    n: u8,
+    own: &[u8],
+    first: &[u16],
+    second: &[u16],
+    word: u8,
+    a: u16,
+    b: u16,
+    slots: &mut [u16],
+) -> u8
+    requires { ⌜ (n ≡ actions (now tables)) × Lawful (now tables) ⌝ }
+    requires { ⌜ Nodes (graph (now own) (now first) (now second)) × RootTerm n (graph (now own) (now first) (now second)) word a b × (length (now slots) ≡ 6) ⌝ }
+    ensures { λ r. ⌜ ChosenRoot (now (tables .entry)) n (graph (now (own .entry)) (now (first .entry)) (now (second .entry))) word a b (now (slots .exit)) r ⌝ }
+    ensures { λ r. ⌜ Slots n (graph (now (own .entry)) (now (first .entry)) (now (second .entry))) (now (slots .exit)) ⌝ }
+{
+    root::clear_slots(&mut *slots);
+    let range = laws_of(word);
+    let high = range.high;
+    let mut law: u8 = range.low;
+    while law <= high {
+        if root::match_root(law, n, own, first, second, word, a, b, &mut *slots) {
+            if root::holds(law, tables, &*slots) {
+                return law;
+            }
+        }
+        law += 1;
+    }
+    0
+}
+
+// How many words the right side of a law comes to, its letters in the slots.
+pub fn entries_len(law: u8, slots: &[u16], sizes: &[u16]) -> usize
+    requires { ⌜ (1 ≤ law) × (law ≤ 32) × (length (now slots) ≡ 6) ⌝ }
+    requires { ⌜ SizesReach (now slots) (now sizes) ⌝ }
+    ensures { λ r. ⌜ SideSize law (now (slots .entry)) (now (sizes .entry)) r × (r < 1000000) ⌝ }
+{
+    let k = law as usize;
+    let end = right::RIGHT_AT[k] as usize;
+    let mut i = right::RIGHT_AT[k - 1] as usize;
+    let mut total: usize = 0;
+    while i < end {
+        total += graph::size_of(sizes, root::entry_of(right::RIGHT[i], 0, slots));
+        i += 1;
+    }
+    total
+}
+
+// Puts the right side of a law, as entries, before the entries still to read; where it begins.
+pub fn put_entries(law: u8, tables: &[u8], slots: &[u16], todo: &mut [u16], rest: usize) -> usize
+    requires { ⌜ (1 ≤ law) × (law ≤ 32) × (length (now slots) ≡ 6) × ActionSlots (now slots) ⌝ }
+    requires { ⌜ (length (side-entries (now tables) law (now slots)) ≤ rest) × (rest ≤ length (now todo)) ⌝ }
+    ensures { λ r. ⌜ (now (todo .exit) ≡ overwrite (now (todo .entry)) r (side-entries (now (tables .entry)) law (now (slots .entry)))) × (r + length (side-entries (now (tables .entry)) law (now (slots .entry))) ≡ rest) ⌝ }
+{
+    let entry = tables::communication_of(tables, slots[3] as u8, slots[4] as u8);
+    let k = law as usize;
+    let low = right::RIGHT_AT[k - 1] as usize;
+    let mut i = right::RIGHT_AT[k] as usize;
+    let mut front: usize = rest;
+    while low < i {
+        i -= 1;
+        front -= 1;
+        todo[front] = root::entry_of(right::RIGHT[i], entry, slots);
+    }
+    front
 }

@@ -17,7 +17,8 @@ use Rattle.plans.specs.Word.{word-of}
 use Rattle.plans.specs.Term.{Term, act, un, bin, words, Over, push, read, and-then, sole, term-of}
 use Rattle.plans.specs.Place.{top, subterm, replace}
 use Rattle.plans.proofs.Options.{never, and-then-some}
-use Rattle.plans.proofs.Reading.{spell, Over-all, read-append, read-on, sole-some, read-words, read-spell, read-said}
+use Rattle.plans.specs.Stack.{spell}
+use Rattle.plans.proofs.Reading.{Over-all, read-append, read-on, sole-some, read-words, read-spell, read-said}
 
 top-some : (s : List Term) (u : Term) → top s ≡ some u → (r : List Term) × (s ≡ u ∷ r)
 top-some [] u e = never e

@@ -6,13 +6,9 @@ use mathlib.Core.Option.{Option, none, some, Option·some-injective}
 use Rattle.plans.specs.declared.Word.{Word}
 use Rattle.plans.specs.Word.{word-of}
 use Rattle.plans.specs.Term.{Term, act, un, bin, words, Over, push, read, and-then, sole, term-of}
+use Rattle.plans.specs.Stack.{spell}
 use Rattle.plans.proofs.Options.{never, and-then-some}
 use Rattle.plans.proofs.Words.{word-action, word-unary, word-binary, Spelled, is-action, is-one, is-two, is-none, spelled}
-
--- the words of the terms that wait, the last first
-unfoldable pub spell : List Term → List ℕ
-spell [] = []
-spell (x ∷ s) = spell s ++ words x
 
 abbrev pub Over-all : ℕ → List Term → Type 0
 Over-all n [] = Unit

@@ -18,6 +18,7 @@ use Rattle.plans.specs.Word.{word-of}
 use Rattle.plans.specs.Term.{Term, act, un, bin, push, read, and-then, sole, term-of}
 use Rattle.plans.specs.Basic.{dead-stop?, live-action?, sum-plan?, basic?, basic-term?, basic-words?}
 use Rattle.plans.specs.Kinds.{action-kind, joined-kind}
+use Rattle.plans.specs.Stack.{stacked}
 
 -- the kind of a term
 unfoldable pub kind : Term → ℕ
@@ -111,11 +112,6 @@ scan-reads n (w ∷ ws) s = inner (push-kinds (word-of n w) s) (λ r. scan-reads
 pub scan-basic : (n : ℕ) (ws : List ℕ) → scan n ws [] ≡ basic-words? n ws
 unfolding basic-words? term-of kinds
 scan-basic n ws = scan-reads n ws []
-
--- the first d entries of an array, the last first
-unfoldable pub stacked : List ℕ → ℕ → List ℕ
-stacked a zero = []
-stacked a (suc d) = getD a d 0 ∷ stacked a d
 
 pub stacked-set : (a : List ℕ) (i v d : ℕ) → d ≤ i → stacked (set a i v) d ≡ stacked a d
 unfolding stacked

@@ -5,3 +5,4 @@ pub mod Judging
 pub mod Basic
 pub mod Kinds
 pub mod Start
+pub mod Stack

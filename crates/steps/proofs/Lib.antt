@@ -1,6 +1,7 @@
 pub mod Finding
 pub mod Choosing
 pub mod Prefixes
+pub mod Quiet
 pub mod Making
 pub mod Loading
 pub mod Seeking

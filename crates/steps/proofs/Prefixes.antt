@@ -120,7 +120,7 @@ module _ (t : Tables) (pre suf : List ℕ) (filled : 1 ≤ length pre) where
       go (some u) q e = some-lowest (first-law t 5 28 u) e (lowest u q 28 5)
 
 -- whether a law fits at a place goes by the words up to the place alone
-no-fit : (t : Tables) (k p : ℕ) (ws : List ℕ) → (step t k p ws ≡ none) ↔ (and-then (subterm (actions t) ws p) (λ u. rewrite t (law-at k) u) ≡ none)
+pub no-fit : (t : Tables) (k p : ℕ) (ws : List ℕ) → (step t k p ws ≡ none) ↔ (and-then (subterm (actions t) ws p) (λ u. rewrite t (law-at k) u) ≡ none)
 unfolding step
 no-fit t k p ws = go (subterm (actions t) ws p)
   where

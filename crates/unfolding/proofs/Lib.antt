@@ -1,3 +1,6 @@
 mod Turning
+mod Walking
+mod Loading
+mod Speeding
 mod Running
 mod Settling

@@ -19,6 +19,8 @@ use Rattle.steps.proofs.Making.{kept-moved, before-moved}
 use Rattle.unfolding.specs.Unfolding.{run, run-of}
 use Rattle.unfolding.specs.declared.Turned.{Turned}
 use Rattle.unfolding.specs.declared.Turned.the-variants.{Ended, Stepped}
+use Rattle.unfolding.specs.declared.graph_run.Sped.{Sped}
+use Rattle.unfolding.specs.Walking.{SpedOf}
 use Rattle.unfolding.specs.Turns.{TurnOf, ended, stepped, Made}
 
 abbrev zeros : ℕ → List ℕ
@@ -70,6 +72,26 @@ started t c m₀ list left starts right old s clear work kept none-made none-rea
       used-low = omega arith;
       count = omega arith;
       same = rw (q, no-before, none-made);
+    }
+
+-- steps were made on a graph, or none
+pub sped : (t : Tables) (c m₀ : ℕ) (w₀ list₀ : List ℕ) (list left starts right old : List ℕ) (s : State) (allowed used : ℕ)
+    → Going t c m₀ w₀ list₀ list left starts right old s allowed used → (right′ old′ list′ : List ℕ) (r : Sped)
+    → SpedOf t c allowed used left starts right old list right′ old′ list′ s r → length list′ ≡ length list
+    → Going t c m₀ w₀ list₀ list′ left starts right′ old′ (r .state) (r .allowed) (r .used)
+unfolding next-step first-from
+sped t c m₀ w₀ list₀ list left starts right old s allowed used g right′ old′ list′ r h long =
+    record {
+      r = g .r ++ h .rs;
+      working = h .working;
+      kept = h .kept;
+      quiet = rw (h .none-read);
+      list-is = h .records ∙ rw (g .list-is) (overwrite-padded (g .r) (h .rs) (length list₀) used (g .used-is) (omega (arith, h .used-is, h .used-low, g .list-long)));
+      list-long = long ∙ g .list-long;
+      used-is = omega (arith, h .used-is, g .used-is, length-append (g .r) (h .rs));
+      used-low = omega (arith, h .used-low, long);
+      count = omega (arith, h .count, g .count);
+      same = rw long (sym (h .runs (g .r)) ∙ g .same);
     }
 
 module _ (t : Tables) (c m₀ : ℕ) (w₀ list₀ : List ℕ) (list left starts right old : List ℕ) (s : State) (allowed used : ℕ)

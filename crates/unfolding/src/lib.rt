@@ -1,4 +1,6 @@
 // The unfolding of a plan: step after step, each at the least place at which one of laws 5 to 32 fits.
+mod graph_run;
+
 use buffer::State;
 use refusals::Judgement;
 use refusals::Place;
@@ -141,6 +143,21 @@ fn run_on(
     let mut allowed = allowance as usize;
     let mut used: usize = 0;
     loop {
+        let sped = graph_run::make_steps(
+            tables,
+            n,
+            &mut *list,
+            used,
+            &*left,
+            &*starts,
+            &mut *right,
+            &mut *old,
+            gap,
+            allowed,
+            limit,
+        );
+        used = sped.used;
+        allowed = sped.allowed;
         let room = list.len() - used;
         let turned = turn(
             tables,
@@ -149,7 +166,7 @@ fn run_on(
             &mut *starts,
             &mut *right,
             &mut *old,
-            gap,
+            sped.state,
             allowed,
             room,
             limit,

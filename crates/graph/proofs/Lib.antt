@@ -1,0 +1,5 @@
+pub mod Terms
+pub mod Growing
+pub mod Reading
+pub mod Stacks
+mod Writing

@@ -1,0 +1,240 @@
+-- `unfolding::graph_run::walk` meets its contract. The invariant: `Walking`, the run from the first plan comes to the plan held now. The measure
+-- is the steps still allowed, and within a step the entries still to read.
+use Prim.Native.Nat.{ℕ, _+_, _-_, _*_}
+use native.Mathlib.Omega.{arith}
+use borrow.Author.Needs.{needs}
+use mathlib.Core.Path.{_≡_, refl, sym, _∙_}
+use mathlib.Core.List.{List}
+use lib.ListN.{length}
+use Rattle.graphsteps.specs.declared.Progress.{Progress}
+use Rattle.graphsteps.specs.declared.Cut.{Cut}
+use Rattle.graphsteps.specs.declared.Advancing.the-variants.{On, Step, Stuck}
+use Rattle.graphsteps.specs.Holding.{Arrays, arrays, Fits, Holding}
+use Rattle.unfolding.proofs.Walking.{Walking, WentOn, Stepped, starts, read-low, on, step, same, goes-on, goes-further, stops}
+use Rattle.unfolding.proofs.graph_run.walk.Statement.{statement}
+use Rattle.unfolding.proofs.graph_run.walk.Tie as tie
+
+abbrev Inv-loop : tie.InvT-loop
+Inv-loop tables n list₀ used own₀ first₀ second₀ sizes₀ stack₀ todo₀ allowed limit slots₀ here₀ cut₀ made₀ end₀ list own first second sizes stack todo slots here cut made end =
+    Walking tables limit allowed used list₀ (arrays own₀ first₀ second₀ sizes₀ stack₀ todo₀) here₀ list (arrays own first second sizes stack todo) here cut made end
+    × (length slots ≡ 6)
+
+abbrev μ-loop : tie.MeasureT-loop
+μ-loop tables n list₀ used own₀ first₀ second₀ sizes₀ stack₀ todo₀ allowed limit slots₀ here₀ cut₀ made₀ end₀ list own first second sizes stack todo slots here cut made end =
+    16385 * (allowed - made) + (16384 - here .rest)
+
+-- the call of a turn, the head of the loop, and the function's entry
+abbrev called : tie.After-slots2 Inv-loop μ-loop → tie.After-advance Inv-loop μ-loop
+called c = c .before .before .before .before .before .before .before .before .before .before .before .before .before
+
+abbrev at-loop : tie.After-advance Inv-loop μ-loop → tie.At-loop Inv-loop μ-loop
+at-loop k = k .before .before .before .before .before .before .before .before .before .before
+
+abbrev entry : tie.At-loop Inv-loop μ-loop → tie.Start Inv-loop μ-loop
+entry l = l .before .before .before .before .before .before .before .before .before
+
+-- the arrays before and after an entry is read
+abbrev held : tie.After-advance Inv-loop μ-loop → Arrays
+held k = let l = at-loop k .loop in arrays (l .own) (l .first) (l .second) (l .sizes) (l .stack) (l .todo)
+
+abbrev held-next : tie.After-advance Inv-loop μ-loop → Arrays
+held-next k = arrays (k .advance .last .1 .1 .0) (k .advance .last .1 .1 .1 .0) (k .advance .last .1 .1 .1 .1 .0) (k .advance .last .1 .1 .1 .1 .1 .0) (k .advance .last .1 .1 .1 .1 .1 .1 .0) (k .advance .last .1 .1 .1 .1 .1 .1 .1 .0)
+
+-- whatever plan is held: an entry was read, or a step was made
+abbrev Onward : tie.After-advance Inv-loop μ-loop → Progress → Type 0
+Onward k p =
+    let l = at-loop k in
+    let a = entry l .args in
+    (w : List ℕ) → Holding (a .tables .now) (a .limit) (held k) (l .loop .here) w → WentOn (a .tables .now) (a .limit) (held k) (held-next k) (l .loop .here) p w
+
+onward : (k : tie.After-advance Inv-loop μ-loop) (p : Progress) → k .advance .result ≡ On p → Onward k p
+onward k p q = on (k .advance .ensures) q
+
+abbrev Further : tie.After-advance Inv-loop μ-loop → ℕ → Progress → Cut → Type 0
+Further k law p cut =
+    let l = at-loop k in
+    let a = entry l .args in
+    (w : List ℕ) → Holding (a .tables .now) (a .limit) (held k) (l .loop .here) w → Stepped (a .tables .now) (a .limit) (a .allowed - l .loop .made) (length (l .loop .list) - l .loop .end) (held-next k) (l .loop .here) law p cut w
+
+further : (k : tie.After-advance Inv-loop μ-loop) (law : ℕ) (p : Progress) (cut : Cut) → k .advance .result ≡ Step law p cut → Further k law p cut
+further k law p cut q = step (k .advance .ensures) q
+
+slots-long : (k : tie.After-advance Inv-loop μ-loop) → length (k .advance .last .1 .1 .1 .1 .1 .1 .1 .1 .0) ≡ 6
+slots-long k = k .advance .kept .1 .1 .1 .1 .1 .1 .1 .1 .0 ∙ at-loop k .loop .inv .1
+
+loop-holds : tie.Need-loop-holds Inv-loop μ-loop
+loop-holds c = let p = c .before .before .before .before .before .before .before .before .pre in (starts (p .0 .3) (p .1 .0) (p .1 .1), refl)
+
+sub-room : tie.Need-sub-room Inv-loop μ-loop
+sub-room c = c .before .before .loop .inv .0 .end-low
+
+sub-left : tie.Need-sub-left Inv-loop μ-loop
+sub-left c = c .before .before .loop .inv .0 .made-low
+
+slice-aggregate-advance : tie.Need-slice-aggregate-advance Inv-loop μ-loop
+slice-aggregate-advance c = search needs
+
+advance-requires : tie.Need-advance-requires Inv-loop μ-loop
+advance-requires c κs =
+    let l = c .before .before .before .before .before .before .before .before .before in
+    let p = entry l .pre .0 in
+    ((p .0, p .1, p .2, l .loop .inv .1, c .before .before .before .before .before .before .before .if1 .taken), (l .loop .inv .0 .fits, l .loop .inv .0 .plan))
+
+enum-known-advanced : tie.Need-enum-known-advanced Inv-loop μ-loop
+enum-known-advanced c = search needs
+
+loop-less : tie.Need-loop-less Inv-loop μ-loop
+loop-less c =
+    let k = called (c .before .before .before) in
+    let s = at-loop k .loop .inv .0 .plan in
+    omega (arith, onward k _ (c .before .advanced .given .1) (s .some-plan) (s .holding) .rest-more, k .before .before .before .before .before .before .before .before .if1 .taken)
+
+loop-again : tie.Need-loop-again Inv-loop μ-loop
+loop-again c =
+    let k = called (c .before .before .before) in
+    (goes-on (at-loop k .loop .inv .0) (onward k _ (c .before .advanced .given .1)), slots-long k)
+
+enum-known-advanced-2 : tie.Need-enum-known-advanced-2 Inv-loop μ-loop
+enum-known-advanced-2 c = search needs
+
+-- the step of a turn, from the plan that is known
+abbrev Went : tie.After-known-told2 Inv-loop μ-loop → Type 0
+Went c =
+    let k = called (c .before .before .before) in
+    let l = at-loop k in
+    let a = entry l .args in
+    let d = c .before .advanced2 .given .0 in
+    Stepped (a .tables .now) (a .limit) (a .allowed - l .loop .made) (length (l .loop .list) - l .loop .end) (held-next k) (l .loop .here) (d .0) (d .1 .0) (d .1 .1 .0) (l .loop .inv .0 .plan .some-plan)
+
+went : (c : tie.After-known-told2 Inv-loop μ-loop) → Went c
+went c =
+    let k = called (c .before .before .before) in
+    let s = at-loop k .loop .inv .0 .plan in
+    further k _ _ _ (c .before .advanced2 .given .1) (s .some-plan) (s .holding)
+
+put-record-requires : tie.Need-put-record-requires Inv-loop μ-loop
+put-record-requires c κs =
+    let l = at-loop (called (c .before .before .before .before)) in
+    let n = went (c .before) in
+    (omega (arith, n .some-room, l .loop .inv .0 .end-low), omega (arith, read-low (l .loop .inv .0 .plan), entry l .pre .0 .2))
+
+add-made : tie.Need-add-made Inv-loop μ-loop
+add-made c =
+    let n = went (c .before .before .before .before) in
+    let l = at-loop (called (c .before .before .before .before .before .before .before)) in
+    omega (arith, n .some-left, entry l .fits .allowed)
+
+add-end : tie.Need-add-end Inv-loop μ-loop
+add-end c =
+    let n = went (c .before .before .before .before) in
+    let l = at-loop (called (c .before .before .before .before .before .before .before)) in
+    omega (arith, n .some-room, l .loop .inv .0 .list-long, entry l .good)
+
+loop-less-2 : tie.Need-loop-less-2 Inv-loop μ-loop
+loop-less-2 c =
+    let n = went (c .before .before .before .before) in
+    omega (arith, n .some-left)
+
+loop-again-2 : tie.Need-loop-again-2 Inv-loop μ-loop
+loop-again-2 c =
+    let k = called (c .before .before .before .before .before .before .before) in
+    let r = c .before .before .put-record in
+    (goes-further (at-loop k .loop .inv .0) (further k _ _ _ (c .before .before .before .before .before .advanced2 .given .1)) (r .ensures) (r .kept .0), slots-long k)
+
+enum-told : tie.Need-enum-told Inv-loop μ-loop
+enum-told c = search needs
+
+-- nothing could be done: the arrays are as they were
+stayed : (k : tie.After-advance Inv-loop μ-loop) → k .advance .result ≡ Stuck → held-next k ≡ held k
+stayed k q = same (k .advance .ensures) q (at-loop k .loop .inv .0 .plan)
+
+fits-still : (c : tie.After-enum-told Inv-loop μ-loop) → let k = called (c .before .before) in Fits (held-next k) (at-loop k .loop .here)
+fits-still c = let k = called (c .before .before) in rw (stayed k (c .enum-told .given .1)) (at-loop k .loop .inv .0 .fits)
+
+same-length : tie.Need-same-length Inv-loop μ-loop
+same-length c = at-loop (called (c .before .before)) .loop .inv .0 .list-long
+
+same-length-2 : tie.Need-same-length-2 Inv-loop μ-loop
+same-length-2 c = fits-still c .own-long ∙ sym (entry (at-loop (called (c .before .before))) .pre .1 .0 .own-long)
+
+same-length-3 : tie.Need-same-length-3 Inv-loop μ-loop
+same-length-3 c = fits-still c .first-long ∙ sym (entry (at-loop (called (c .before .before))) .pre .1 .0 .first-long)
+
+same-length-4 : tie.Need-same-length-4 Inv-loop μ-loop
+same-length-4 c = fits-still c .second-long ∙ sym (entry (at-loop (called (c .before .before))) .pre .1 .0 .second-long)
+
+same-length-5 : tie.Need-same-length-5 Inv-loop μ-loop
+same-length-5 c = fits-still c .sizes-long ∙ sym (entry (at-loop (called (c .before .before))) .pre .1 .0 .sizes-long)
+
+same-length-6 : tie.Need-same-length-6 Inv-loop μ-loop
+same-length-6 c = fits-still c .stack-long ∙ sym (entry (at-loop (called (c .before .before))) .pre .1 .0 .stack-long)
+
+same-length-7 : tie.Need-same-length-7 Inv-loop μ-loop
+same-length-7 c = fits-still c .todo-long ∙ sym (entry (at-loop (called (c .before .before))) .pre .1 .0 .todo-long)
+
+returns : tie.Need-returns Inv-loop μ-loop
+returns c =
+    let k = called (c .before .before) in
+    stops (at-loop k .loop .inv .0) (stayed k (c .enum-told .given .1))
+
+same-length-8 : tie.Need-same-length-8 Inv-loop μ-loop
+same-length-8 c = c .before .before .loop .inv .0 .list-long
+
+same-length-9 : tie.Need-same-length-9 Inv-loop μ-loop
+same-length-9 c = let l = c .before .before in l .loop .inv .0 .fits .own-long ∙ sym (entry l .pre .1 .0 .own-long)
+
+same-length-10 : tie.Need-same-length-10 Inv-loop μ-loop
+same-length-10 c = let l = c .before .before in l .loop .inv .0 .fits .first-long ∙ sym (entry l .pre .1 .0 .first-long)
+
+same-length-11 : tie.Need-same-length-11 Inv-loop μ-loop
+same-length-11 c = let l = c .before .before in l .loop .inv .0 .fits .second-long ∙ sym (entry l .pre .1 .0 .second-long)
+
+same-length-12 : tie.Need-same-length-12 Inv-loop μ-loop
+same-length-12 c = let l = c .before .before in l .loop .inv .0 .fits .sizes-long ∙ sym (entry l .pre .1 .0 .sizes-long)
+
+same-length-13 : tie.Need-same-length-13 Inv-loop μ-loop
+same-length-13 c = let l = c .before .before in l .loop .inv .0 .fits .stack-long ∙ sym (entry l .pre .1 .0 .stack-long)
+
+same-length-14 : tie.Need-same-length-14 Inv-loop μ-loop
+same-length-14 c = let l = c .before .before in l .loop .inv .0 .fits .todo-long ∙ sym (entry l .pre .1 .0 .todo-long)
+
+returns-2 : tie.Need-returns-2 Inv-loop μ-loop
+returns-2 c = stops (c .before .before .loop .inv .0) refl
+
+pub walk-spec : {M : Type 1} → statement M
+walk-spec =
+    tie.close
+    (tie.spec
+    Inv-loop
+    μ-loop
+    loop-holds
+    sub-room
+    sub-left
+    slice-aggregate-advance
+    advance-requires
+    enum-known-advanced
+    loop-less
+    loop-again
+    enum-known-advanced-2
+    put-record-requires
+    add-made
+    add-end
+    loop-less-2
+    loop-again-2
+    enum-told
+    same-length
+    same-length-2
+    same-length-3
+    same-length-4
+    same-length-5
+    same-length-6
+    same-length-7
+    returns
+    same-length-8
+    same-length-9
+    same-length-10
+    same-length-11
+    same-length-12
+    same-length-13
+    same-length-14
+    returns-2)
