@@ -1,0 +1,8 @@
+mod Decimal
+mod Writing
+mod Lengths
+mod Turns
+mod Ending
+mod Unfolds
+mod Files
+pub mod Outcome

@@ -1,0 +1,103 @@
+// What the program prints for a station file.
+use stations::StationRead;
+use unfolding::Unfolded;
+ghost use mathlib.Core.Path.{_≡_};
+ghost use mathlib.Core.Option.{none};
+ghost use Prim.Native.Nat.{_*_, _≤_};
+ghost use lib.ListN.{length, take};
+ghost use Rattle.tables.specs.Tables.{actions};
+ghost use Rattle.buffer.specs.Areas.{even?};
+ghost use Rattle.demands.specs.Claims.{reached-part, own-rewriting};
+ghost use Rattle.listing.specs.Listing.{ending, plan-listing, listing};
+ghost use Rattle.listing.specs.Writing.{ListOutcome, list-outcome, most};
+
+mod lines;
+mod text;
+
+// "allowance 5,000"
+const ALLOWANCE: u32 = 5000;
+
+// What a listing comes to: so many bytes, all of it; or the area is too short for it.
+pub enum Listed {
+    Whole(usize),
+    Short,
+}
+
+// The listing of an unfolding that ended with a number, 0 where it finished, after so many steps, with its list and areas.
+fn put_ending<'a>(
+    tables: &[u8],
+    number: u8,
+    steps: usize,
+    size: usize,
+    list: &[u8],
+    a: &'a [u8],
+    b: &'a [u8],
+    out: &mut [u8],
+) -> usize
+    requires { ⌜ (actions (now tables) ≤ 31) × (length (now a) ≡ 8192) × (length (now b) ≡ 8192) × (3 * steps ≤ length (now list)) × (length (now list) ≡ 15000) × (most ≤ length (now out)) ⌝ }
+    ensures { λ r. ⌜ (take r (now (out .exit)) ≡ ending (actions (now (tables .entry))) number steps (reached-part (even? steps) size (now (a .entry)) (now (b .entry))) (own-rewriting steps (now (list .entry)))) × (r ≤ most) ⌝ }
+{
+    let plan = aberulwy::reached(a, b, steps, size);
+    let orders = plans::count_orders(tables::actions_of(tables), plan);
+    let mut next = lines::put_first(number as usize, steps, plan.len(), orders, &mut *out, 0);
+    next = lines::put_words(plan, &mut *out, next);
+    let used = 3 * steps;
+    lines::put_steps(&list[..used], out, next)
+}
+
+// The listing of a plan: its unfolding in areas of 8,192 bytes and with a list of 15,000, or why it was refused.
+fn put_plan(tables: &[u8], plan: &[u8], out: &mut [u8]) -> usize
+    requires { ⌜ most ≤ length (now out) ⌝ }
+    ensures { λ r. ⌜ (take r (now (out .exit)) ≡ plan-listing (now (tables .entry)) (now (plan .entry))) × (r ≤ most) ⌝ }
+{
+    let mut list = [0u8; 15000];
+    let mut a = [0u8; 8192];
+    let mut b = [0u8; 8192];
+    match aberulwy::unfold(tables, plan, ALLOWANCE, &mut list, &mut a, &mut b) {
+        Unfolded::Refused(refusal) => lines::put_refusal(refusal, out, 0),
+        Unfolded::Finished { steps, size } => put_ending(
+            tables,
+            0,
+            steps,
+            size,
+            &list,
+            &a,
+            &b,
+            out,
+        ),
+        Unfolded::Stopped {
+            number,
+            steps,
+            size,
+        } => put_ending(tables, number, steps, size, &list, &a, &b, out),
+    }
+}
+
+// The listing of a station file, in an area that holds any listing.
+fn put_station(file: &[u8], out: &mut [u8]) -> usize
+    requires { ⌜ most ≤ length (now out) ⌝ }
+    ensures { λ r. ⌜ (take r (now (out .exit)) ≡ listing (now (file .entry))) × (r ≤ most) ⌝ }
+{
+    let mut tables = [0u8; 2305];
+    let mut plan = [0u8; 8192];
+    match aberulwy::read_station(file, &mut tables, &mut plan) {
+        StationRead::Refused(refusal) => lines::put_refusal(refusal, out, 0),
+        StationRead::Read { size } => put_plan(&tables, &plan[..size], out),
+    }
+}
+
+// Lists a station file: everything that the program prints for it, with zeros behind, or `Short` where the area is too short for it, which then
+// keeps its bytes. No listing is longer than 93,000 bytes.
+pub fn list_station(file: &[u8], out: &mut [u8]) -> Listed
+    ensures whole { λ r. ⌜ _≡_ {A = ListOutcome} (record { answer = r; out = now (out .exit) }) (list-outcome (now (file .entry)) (now (out .entry))) ⌝ }
+    ensures bounded { λ r. ⌜ length (listing (now (file .entry))) ≤ most ⌝ }
+{
+    let mut text = [0u8; 93000];
+    let size = put_station(file, &mut text);
+    if out.len() < size {
+        return Listed::Short;
+    }
+    areas::copy_in(&text[..size], &mut *out, 0);
+    areas::clear_from(out, size);
+    Listed::Whole(size)
+}
