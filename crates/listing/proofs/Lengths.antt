@@ -6,7 +6,7 @@ use lib.ListN.{length, getD, length-append}
 use Rattle.refusals.specs.declared.Refusal.{Refusal}
 use Rattle.refusals.specs.Refusal.{printed}
 use Rattle.steps.specs.Records.{moves-of}
-use Rattle.listing.specs.Text.{decimal, labelled, line-end, space, end-label, steps-label, size-label, orders-label, refused-label}
+use Rattle.listing.specs.Text.{decimal, labelled, line-end, space, ascii}
 use Rattle.listing.specs.Listing.{first-line, further-words, words-line, step-line, step-lines, refused-line}
 use Rattle.listing.proofs.Decimal.{decimal-count, decimal-short, labelled-length}
 
@@ -23,15 +23,15 @@ short-label l k n h = omega (arith, labelled-length l n)
 pub first-short : (e s z o : ℕ) → length (first-line e s z o) ≤ 106
 unfolding first-line
 first-short e s z o =
-    joined (labelled end-label e) _ 24 82 (any-label end-label e)
-    (joined (labelled steps-label s) _ 27 55 (any-label steps-label s)
-    (joined (labelled size-label z) _ 26 29 (any-label size-label z)
-    (joined (labelled orders-label o) line-end 28 1 (any-label orders-label o) (omega arith))))
+    joined (labelled (ascii "end ") e) _ 24 82 (any-label (ascii "end ") e)
+    (joined (labelled (ascii " steps ") s) _ 27 55 (any-label (ascii " steps ") s)
+    (joined (labelled (ascii " size ") z) _ 26 29 (any-label (ascii " size ") z)
+    (joined (labelled (ascii " orders ") o) line-end 28 1 (any-label (ascii " orders ") o) (omega arith))))
 
 pub refused-short : (r : Refusal) → length (refused-line r) ≤ 50
 unfolding refused-line
 refused-short r =
-    joined (labelled refused-label (r .number)) _ 28 22 (any-label refused-label (r .number))
+    joined (labelled (ascii "refused ") (r .number)) _ 28 22 (any-label (ascii "refused ") (r .number))
     (joined (labelled space (printed (r .place))) line-end 21 1 (any-label space (printed (r .place))) (omega arith))
 
 byte-label : (l : List ℕ) (n : ℕ) → n < 256 → length (labelled l n) ≤ length l + 3

@@ -6,3 +6,4 @@ mod Ending
 mod Unfolds
 mod Files
 pub mod Outcome
+mod Examples

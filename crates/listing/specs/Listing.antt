@@ -10,12 +10,12 @@ use Rattle.plans.specs.Basic.{orders-of}
 use Rattle.stations.specs.File.{file-refusal, tables-held, plan-held}
 use Rattle.steps.specs.Records.{Move, moves-of}
 use Rattle.unfolding.specs.Unfolding.{Run, run-of, unfold-refusal}
-use Rattle.listing.specs.Text.{labelled, line-end, space, end-label, steps-label, size-label, orders-label, refused-label}
+use Rattle.listing.specs.Text.{labelled, line-end, space, ascii}
 
 -- "It prints `end E steps S size Z orders O`"
 unfoldable pub first-line : ℕ → ℕ → ℕ → ℕ → List ℕ
 first-line e s z o =
-    labelled end-label e ++ (labelled steps-label s ++ (labelled size-label z ++ (labelled orders-label o ++ line-end)))
+    labelled (ascii "end ") e ++ (labelled (ascii " steps ") s ++ (labelled (ascii " size ") z ++ (labelled (ascii " orders ") o ++ line-end)))
 
 -- "a line of the words reached", with one space between two words
 unfoldable pub further-words : List ℕ → List ℕ
@@ -40,7 +40,7 @@ ending n e s plan records = first-line e s (length plan) (orders-of n plan) ++ (
 
 -- "or only `refused N P`, a triple printed as 1,024a + 32b + c"
 unfoldable pub refused-line : Refusal → List ℕ
-refused-line r = labelled refused-label (r .number) ++ (labelled space (printed (r .place)) ++ line-end)
+refused-line r = labelled (ascii "refused ") (r .number) ++ (labelled space (printed (r .place)) ++ line-end)
 
 abbrev pub unless-refused : Option Refusal → List ℕ → List ℕ
 unless-refused (some r) text = refused-line r

@@ -1,8 +1,15 @@
 -- Text in ASCII: numbers in decimal, and the words of the printed lines. (01, "Orders, station files, program"; "Numbers are in base ten".)
 use Prim.Native.Nat.{ℕ, zero, suc, _+_, _/_, _%_}
+use Prim.Native.Char.{code}
+use Prim.Native.String.{String, [] as []ₛ, _∷_ as _∷ₛ_}
 use mathlib.Core.Bool.{cond}
 use mathlib.Core.List.{List, [], _∷_, _++_}
 use lib.Dec.{ltb}
+
+-- a text by the codes of its characters
+abbrev pub ascii : String → List ℕ
+ascii []ₛ = []
+ascii (c ∷ₛ s) = code c ∷ ascii s
 
 -- the digits of n in base ten, the most significant first, with no zero in front; k is a bound on their count
 unfoldable pub digits-within : ℕ → ℕ → List ℕ
@@ -18,23 +25,7 @@ unfoldable pub labelled : List ℕ → ℕ → List ℕ
 labelled text n = text ++ decimal n
 
 abbrev pub line-end : List ℕ
-line-end = 10 ∷ []
+line-end = ascii "\n"
 
 abbrev pub space : List ℕ
-space = 32 ∷ []
-
--- "end ", " steps ", " size ", " orders ", "refused "
-abbrev pub end-label : List ℕ
-end-label = 101 ∷ 110 ∷ 100 ∷ 32 ∷ []
-
-abbrev pub steps-label : List ℕ
-steps-label = 32 ∷ 115 ∷ 116 ∷ 101 ∷ 112 ∷ 115 ∷ 32 ∷ []
-
-abbrev pub size-label : List ℕ
-size-label = 32 ∷ 115 ∷ 105 ∷ 122 ∷ 101 ∷ 32 ∷ []
-
-abbrev pub orders-label : List ℕ
-orders-label = 32 ∷ 111 ∷ 114 ∷ 100 ∷ 101 ∷ 114 ∷ 115 ∷ 32 ∷ []
-
-abbrev pub refused-label : List ℕ
-refused-label = 114 ∷ 101 ∷ 102 ∷ 117 ∷ 115 ∷ 101 ∷ 100 ∷ 32 ∷ []
+space = ascii " "

@@ -93,7 +93,7 @@ same-length-2 c = search needs
 returns-2 : tie.Need-returns-2
 returns-2 c =
     let e = c .before .before .put-ending in
-    (e .ensures .0 ∙ sym (at-finish (c .before .before .before .before .before .before .before .before) .text), e .ensures .1)
+    (rw (at-finish (c .before .before .before .before .before .before .before .before) .text) (e .ensures .0), e .ensures .1)
 
 same-length-3 : tie.Need-same-length-3
 same-length-3 c = search needs
@@ -101,7 +101,7 @@ same-length-3 c = search needs
 returns-3 : tie.Need-returns-3
 returns-3 c =
     let e = c .before .before .put-ending2 in
-    (e .ensures .0 ∙ sym (at-stop (c .before .before .before .before .before .before .before .before) .text), e .ensures .1)
+    (rw (at-stop (c .before .before .before .before .before .before .before .before) .text) (e .ensures .0), e .ensures .1)
 
 pub put-plan-spec : {M : Type 1} → statement M
 put-plan-spec =

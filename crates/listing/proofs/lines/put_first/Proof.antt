@@ -4,7 +4,7 @@ use native.Mathlib.Omega.{arith}
 use borrow.Author.Needs.{needs}
 use mathlib.Core.List.{List, _++_}
 use lib.ListN.{length}
-use Rattle.listing.specs.Text.{labelled, line-end, end-label, steps-label, size-label, orders-label}
+use Rattle.listing.specs.Text.{labelled, line-end, ascii}
 use Rattle.listing.specs.Listing.{first-line}
 use Rattle.listing.proofs.Lengths.{first-short}
 use Rattle.listing.proofs.Writing.{Going, going-all, going-room, going-more, going-end, going-last, wrote-within}
@@ -16,13 +16,13 @@ abbrev line : tie.Start → List ℕ
 line s = first-line (s .args .number) (s .args .steps) (s .args .size) (s .args .orders)
 
 abbrev rest3 : tie.Start → List ℕ
-rest3 s = labelled orders-label (s .args .orders) ++ line-end
+rest3 s = labelled (ascii " orders ") (s .args .orders) ++ line-end
 
 abbrev rest2 : tie.Start → List ℕ
-rest2 s = labelled size-label (s .args .size) ++ rest3 s
+rest2 s = labelled (ascii " size ") (s .args .size) ++ rest3 s
 
 abbrev rest1 : tie.Start → List ℕ
-rest1 s = labelled steps-label (s .args .steps) ++ rest2 s
+rest1 s = labelled (ascii " steps ") (s .args .steps) ++ rest2 s
 
 abbrev Now : tie.Start → List ℕ → ℕ → List ℕ → Type 0
 Now s d next rest = Going (s .args .out .now) (s .args .at) (line s) d next rest
@@ -30,7 +30,7 @@ Now s d next rest = Going (s .args .out .now) (s .args .at) (line s) d next rest
 room : (s : tie.Start) → s .args .at + length (line s) ≤ length (s .args .out .now)
 room s = omega (arith, s .pre, first-short (s .args .number) (s .args .steps) (s .args .size) (s .args .orders))
 
-start : (s : tie.Start) → Now s (s .args .out .now) (s .args .at) (labelled end-label (s .args .number) ++ rest1 s)
+start : (s : tie.Start) → Now s (s .args .out .now) (s .args .at) (labelled (ascii "end ") (s .args .number) ++ rest1 s)
 unfolding first-line
 start s = going-all _ _ _
 
@@ -43,7 +43,7 @@ slice-aggregate-put-labelled c = search needs
 put-labelled-requires : tie.Need-put-labelled-requires
 put-labelled-requires c κs =
     let s = c .before .before .before in
-    going-room (labelled end-label (s .args .number)) (rest1 s) (start s) (room s)
+    going-room (labelled (ascii "end ") (s .args .number)) (rest1 s) (start s) (room s)
 
 slice-aggregate-put-labelled-2 : tie.Need-slice-aggregate-put-labelled-2
 slice-aggregate-put-labelled-2 c = search needs
@@ -52,7 +52,7 @@ put-labelled-requires-2 : tie.Need-put-labelled-requires-2
 put-labelled-requires-2 c κs =
     let k = c .before .before .before .before in
     let s = k .before .before .before .before in
-    going-room (labelled steps-label (s .args .steps)) (rest2 s) (one k) (room s)
+    going-room (labelled (ascii " steps ") (s .args .steps)) (rest2 s) (one k) (room s)
 
 two : (c : tie.After-put-labelled2) → Now (c .before .before .before .before .before .before .before .before .before) (c .put-labelled2 .last .1 .1 .0) (c .put-labelled2 .result) (rest2 (c .before .before .before .before .before .before .before .before .before))
 two c = going-more (one (c .before .before .before .before .before)) (c .put-labelled2 .ensures) (c .put-labelled2 .kept .1 .1 .0)
@@ -64,7 +64,7 @@ put-labelled-requires-3 : tie.Need-put-labelled-requires-3
 put-labelled-requires-3 c κs =
     let k = c .before .before .before .before in
     let s = k .before .before .before .before .before .before .before .before .before in
-    going-room (labelled size-label (s .args .size)) (rest3 s) (two k) (room s)
+    going-room (labelled (ascii " size ") (s .args .size)) (rest3 s) (two k) (room s)
 
 three : (c : tie.After-put-labelled3) → Now (c .before .before .before .before .before .before .before .before .before .before .before .before .before .before) (c .put-labelled3 .last .1 .1 .0) (c .put-labelled3 .result) (rest3 (c .before .before .before .before .before .before .before .before .before .before .before .before .before .before))
 three c = going-more (two (c .before .before .before .before .before)) (c .put-labelled3 .ensures) (c .put-labelled3 .kept .1 .1 .0)
@@ -76,7 +76,7 @@ put-labelled-requires-4 : tie.Need-put-labelled-requires-4
 put-labelled-requires-4 c κs =
     let k = c .before .before .before .before in
     let s = k .before .before .before .before .before .before .before .before .before .before .before .before .before .before in
-    going-room (labelled orders-label (s .args .orders)) line-end (three k) (room s)
+    going-room (labelled (ascii " orders ") (s .args .orders)) line-end (three k) (room s)
 
 four : (c : tie.After-put-labelled4) → Now (c .before .before .before .before .before .before .before .before .before .before .before .before .before .before .before .before .before .before .before) (c .put-labelled4 .last .1 .1 .0) (c .put-labelled4 .result) line-end
 four c = going-more (three (c .before .before .before .before .before)) (c .put-labelled4 .ensures) (c .put-labelled4 .kept .1 .1 .0)

@@ -5,7 +5,7 @@ use borrow.Author.Needs.{needs}
 use mathlib.Core.List.{List, _++_}
 use lib.ListN.{length}
 use Rattle.refusals.specs.Refusal.{printed}
-use Rattle.listing.specs.Text.{labelled, line-end, space, refused-label}
+use Rattle.listing.specs.Text.{labelled, line-end, space, ascii}
 use Rattle.listing.specs.Listing.{refused-line}
 use Rattle.listing.proofs.Lengths.{refused-short}
 use Rattle.listing.proofs.Writing.{Going, going-all, going-room, going-more, going-end, going-last, wrote-within}
@@ -21,7 +21,7 @@ Now s d next rest = Going (s .args .out .now) (s .args .at) (refused-line (s .ar
 room : (s : tie.Start) → s .args .at + length (refused-line (s .args .refusal)) ≤ length (s .args .out .now)
 room s = omega (arith, s .pre, refused-short (s .args .refusal))
 
-start : (s : tie.Start) → Now s (s .args .out .now) (s .args .at) (labelled refused-label (s .args .refusal .number) ++ place s)
+start : (s : tie.Start) → Now s (s .args .out .now) (s .args .at) (labelled (ascii "refused ") (s .args .refusal .number) ++ place s)
 unfolding refused-line
 start s = going-all _ _ _
 
@@ -34,7 +34,7 @@ cast-put-labelled c = search needs
 put-labelled-requires : tie.Need-put-labelled-requires
 put-labelled-requires c κs =
     let s = c .before .before .before in
-    going-room (labelled refused-label (s .args .refusal .number)) (place s) (start s) (room s)
+    going-room (labelled (ascii "refused ") (s .args .refusal .number)) (place s) (start s) (room s)
 
 one : (c : tie.After-put-labelled) → Now (c .before .before .before .before) (c .put-labelled .last .1 .1 .0) (c .put-labelled .result) (place (c .before .before .before .before))
 one c = going-more (start (c .before .before .before .before)) (c .put-labelled .ensures) (c .put-labelled .kept .1 .1 .0)
