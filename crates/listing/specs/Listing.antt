@@ -42,10 +42,12 @@ ending n e s plan records = first-line e s (length plan) (orders-of n plan) ++ (
 unfoldable pub refused-line : Refusal → List ℕ
 refused-line r = labelled (ascii "refused ") (r .number) ++ (labelled space (printed (r .place)) ++ line-end)
 
+-- "only" that line where there is a refusal, and else this text
 abbrev pub unless-refused : Option Refusal → List ℕ → List ℕ
 unless-refused (some r) text = refused-line r
 unless-refused none text = text
 
+-- of a run of the unfolding
 abbrev pub run-listing : Tables → Run → List ℕ
 run-listing t r = ending (actions t) (r .number) (r .steps) (r .plan) (r .records)
 

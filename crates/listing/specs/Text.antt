@@ -24,6 +24,7 @@ decimal n = digits-within 20 n
 unfoldable pub labelled : List ℕ → ℕ → List ℕ
 labelled text n = text ++ decimal n
 
+-- the end of a line, and what stands between two numbers of a line
 abbrev pub line-end : List ℕ
 line-end = ascii "\n"
 

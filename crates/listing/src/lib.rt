@@ -2,7 +2,6 @@
 use stations::StationRead;
 use unfolding::Unfolded;
 ghost use mathlib.Core.Path.{_≡_};
-ghost use mathlib.Core.Option.{none};
 ghost use Prim.Native.Nat.{_*_, _≤_};
 ghost use lib.ListN.{length, take};
 ghost use Rattle.tables.specs.Tables.{actions};
@@ -14,8 +13,18 @@ ghost use Rattle.listing.specs.Writing.{ListOutcome, list-outcome, most}
 mod lines;
 mod text;
 
-// "allowance 5,000"
+// 01: "allowance 5,000, plan area and areas A and B 8,192 each, list 15,000".
 const ALLOWANCE: u32 = 5000;
+
+const AREA: usize = 8192;
+
+const LIST: usize = 15000;
+
+// 01: "One slice of 2,305 bytes".
+const TABLES: usize = 2305;
+
+// No listing is longer.
+pub const LONGEST: usize = 93000;
 
 // What a listing comes to: so many bytes, all of it; or the area is too short for it.
 pub enum Listed {
@@ -45,14 +54,14 @@ fn put_ending<'a>(
     lines::put_steps(&list[..used], out, next)
 }
 
-// The listing of a plan: its unfolding in areas of 8,192 bytes and with a list of 15,000, or why it was refused.
+// The listing of a plan: its unfolding within the program's limits, or why it was refused.
 fn put_plan(tables: &[u8], plan: &[u8], out: &mut [u8]) -> usize
     requires { ⌜ most ≤ length (now out) ⌝ }
     ensures { λ r. ⌜ (take r (now (out .exit)) ≡ plan-listing (now (tables .entry)) (now (plan .entry))) × (r ≤ most) ⌝ }
 {
-    let mut list = [0u8; 15000];
-    let mut a = [0u8; 8192];
-    let mut b = [0u8; 8192];
+    let mut list = [0u8; LIST];
+    let mut a = [0u8; AREA];
+    let mut b = [0u8; AREA];
     match aberulwy::unfold(tables, plan, ALLOWANCE, &mut list, &mut a, &mut b) {
         Unfolded::Refused(refusal) => lines::put_refusal(refusal, out, 0),
         Unfolded::Finished { steps, size } => put_ending(
@@ -78,8 +87,8 @@ fn put_station(file: &[u8], out: &mut [u8]) -> usize
     requires { ⌜ most ≤ length (now out) ⌝ }
     ensures { λ r. ⌜ (take r (now (out .exit)) ≡ listing (now (file .entry))) × (r ≤ most) ⌝ }
 {
-    let mut tables = [0u8; 2305];
-    let mut plan = [0u8; 8192];
+    let mut tables = [0u8; TABLES];
+    let mut plan = [0u8; AREA];
     match aberulwy::read_station(file, &mut tables, &mut plan) {
         StationRead::Refused(refusal) => lines::put_refusal(refusal, out, 0),
         StationRead::Read { size } => put_plan(&tables, &plan[..size], out),
@@ -92,7 +101,7 @@ pub fn list_station(file: &[u8], out: &mut [u8]) -> Listed
     ensures whole { λ r. ⌜ _≡_ {A = ListOutcome} (record { answer = r; out = now (out .exit) }) (list-outcome (now (file .entry)) (now (out .entry))) ⌝ }
     ensures bounded { λ r. ⌜ length (listing (now (file .entry))) ≤ most ⌝ }
 {
-    let mut text = [0u8; 93000];
+    let mut text = [0u8; LONGEST];
     let size = put_station(file, &mut text);
     if out.len() < size {
         return Listed::Short;

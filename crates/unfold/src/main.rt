@@ -50,7 +50,7 @@ fn main() {
         io::write_all(STDERR_FILENO, b"unfold: standard input cannot be read\n");
         return;
     };
-    let mut text = [0u8; 93000];
+    let mut text = [0u8; listing::LONGEST];
     let Listed::Whole(length) = listing::list_station(&file[..size], &mut text) else {
         return;
     };
