@@ -1,5 +1,6 @@
 // Aberulwy: the public calls. Each takes slices of any length and asks nothing of its caller. Under each call, `whole` says its answer,
-// refusals included, and every lent byte at exit; `numbers` says the answer in document 01's numbers; further clauses say what is claimed of it.
+// refusals included, and every lent byte at exit; where the answer is one of document 01's, `numbers` says it in that paper's numbers; further
+// clauses say what is claimed of it.
 use checking::Checked;
 use refusals::Judgement;
 use refusals::Refusal;

@@ -20,7 +20,7 @@ use Rattle.graphsteps.specs.declared.Progress.{Progress}
 use Rattle.graphsteps.specs.declared.Cut.{Cut}
 use Rattle.graphsteps.specs.declared.Operands.{Operands}
 use Rattle.graphsteps.specs.declared.Advancing.the-variants.{On, Step}
-use Rattle.graphsteps.specs.Holding.{Arrays, arrays, in-use, Fits, Holding, SomePlan, Signed, TakenFor, takes-one, takes-two, SizesOf, size-under, after-term, after-sign, Advanced, AdvancedOn}
+use Rattle.graphsteps.specs.Holding.{Arrays, arrays, in-use, Fits, Holding, SomePlan, Signed, TakenFor, takes-one, takes-two, SizesOf, size-under, after-term, after-sign, with-step, Advanced, AdvancedOn}
 use Rattle.graphsteps.proofs.Entries.{SignAt, sign-at, sign-word, node-term, action-term}
 use Rattle.graphsteps.proofs.Redexes.{Redex, redex, signed}
 use Rattle.graphsteps.proofs.Terms.{held-over, next-entry, some-room, term-read}
@@ -166,13 +166,13 @@ module _ (t : Tables) (ok : Lawful t) (c : ℕ) (most : c ≤ 16384) (allowed ro
               let f = one-first (chosen .chosen-root (x .term) (x .root)) some-law in
               side-room t ok c most m p fits more (s .some-plan) h high r x law (f .0) (f .1) (f .3) side (f .4) new new-is short′
 
-          pub on-step : 1 ≤ allowed → 3 ≤ room → (front : ℕ) → front + length (side-entries t law slots) ≡ p .rest + 1 → {todo′ : List ℕ}
-              → todo′ ≡ overwrite todo front (side-entries t law slots)
+          pub on-step : 1 ≤ allowed → 3 ≤ room → (front : ℕ) → front + length (side-entries t law slots) ≡ p .rest + 1 → {todo′ : List ℕ} {q : Progress}
+              → todo′ ≡ overwrite todo front (side-entries t law slots) → q ≡ with-step p (r .under) front (p .read + 1 - old) (p .size - old + new)
               → AdvancedOn t c allowed room (arrays own first second sizes stack todo) (arrays own first second sizes stack todo′) p
-              (Step law (record { height = r .under; rest = front; count = p .count; read = p .read + 1 - old; size = p .size - old + new })
+              (Step law q
               (record { at = p .read + 1 - old; old = old; new = new; word = getD todo (p .rest) 0; a = r .a; b = r .b }))
-          on-step l i front e q =
-              rw (q, old-is)
+          on-step l i front e q z =
+              rw (q, z, old-is)
               (record {
                 advanced =
                     λ w h.

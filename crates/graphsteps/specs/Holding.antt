@@ -84,12 +84,22 @@ size-under sizes w r = cond (ltb w 70) (entry-size sizes (r .a) + entry-size siz
 abbrev pub SizesOf : List ℕ → ℕ → Operands → Type 0
 SizesOf sizes w r = (256 ≤ r .a → r .a < length sizes) × (w < 70 → 256 ≤ r .b → r .b < length sizes)
 
--- the progress after a term, and after a sign that has become a node
+-- the progress after a term of k words; after a sign that has become a node on so many entries; and after a step
+abbrev pub with-term : Progress → ℕ → Progress
+with-term p k = record { height = p .height + 1; rest = p .rest + 1; count = p .count; read = p .read + k; size = p .size }
+
+abbrev pub with-sign : Progress → ℕ → Progress
+with-sign p under = record { height = under + 1; rest = p .rest + 1; count = p .count + 1; read = p .read + 1; size = p .size }
+
+abbrev pub with-step : Progress → ℕ → ℕ → ℕ → ℕ → Progress
+with-step p under rest at size = record { height = under; rest = rest; count = p .count; read = at; size = size }
+
+-- by the entry, and by the sign's operands
 abbrev pub after-term : List ℕ → Progress → ℕ → Progress
-after-term sizes p v = record { height = p .height + 1; rest = p .rest + 1; count = p .count; read = p .read + entry-size sizes v; size = p .size }
+after-term sizes p v = with-term p (entry-size sizes v)
 
 abbrev pub after-sign : Progress → Operands → Progress
-after-sign p r = record { height = r .under + 1; rest = p .rest + 1; count = p .count + 1; read = p .read + 1; size = p .size }
+after-sign p r = with-sign p (r .under)
 
 -- the operands of a sign, taken from the stack
 pub data TakenFor (w : ℕ) (stack : List ℕ) (height : ℕ) (r : Operands) : Type 0 where

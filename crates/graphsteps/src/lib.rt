@@ -7,7 +7,7 @@ ghost use Prim.Native.Nat.{_+_, _≤_, _<_};
 ghost use lib.ListN.{length, set};
 ghost use Rattle.tables.specs.Tables.{actions};
 ghost use Rattle.tables.specs.Lawful.{Lawful};
-ghost use Rattle.graphsteps.specs.Holding.{arrays, Fits, SomePlan, Signed, TakenFor, SizesOf, size-under, after-term, after-sign, AdvancedOn};
+ghost use Rattle.graphsteps.specs.Holding.{arrays, Fits, SomePlan, Signed, TakenFor, SizesOf, size-under, after-term, after-sign, with-term, with-sign, with-step, AdvancedOn};
 
 // How far the reading has come: entries on the stack, where the entries still to read begin, nodes in use; the words of the stack and of the
 // whole plan.
@@ -17,6 +17,49 @@ pub struct Progress {
     pub count: usize,
     pub read: usize,
     pub size: usize,
+}
+
+impl Progress {
+    // A term of so many words is read.
+    pub fn after_term(self, words: usize) -> Progress
+        requires { ⌜ (self .height < 16384) × (self .rest < 16384) × (self .read ≤ 16384) × (words < 65536) ⌝ }
+        ensures { λ r. ⌜ r ≡ with-term self words ⌝ }
+    {
+        Progress {
+            height: self.height + 1,
+            rest: self.rest + 1,
+            count: self.count,
+            read: self.read + words,
+            size: self.size,
+        }
+    }
+
+    // A sign is read as a node, which stands on so many entries.
+    pub fn after_sign(self, under: usize) -> Progress
+        requires { ⌜ (under < 16384) × (self .rest < 16384) × (self .count < 32768) × (self .read ≤ 16384) ⌝ }
+        ensures { λ r. ⌜ r ≡ with-sign self under ⌝ }
+    {
+        Progress {
+            height: under + 1,
+            rest: self.rest + 1,
+            count: self.count + 1,
+            read: self.read + 1,
+            size: self.size,
+        }
+    }
+
+    // A step is made: its subplan stood on so many entries and started at a place; the right side is to be read from `rest` on.
+    pub fn after_step(self, under: usize, rest: usize, at: usize, size: usize) -> Progress
+        ensures { λ r. ⌜ r ≡ with-step self under rest at size ⌝ }
+    {
+        Progress {
+            height: under,
+            rest,
+            count: self.count,
+            read: at,
+            size,
+        }
+    }
 }
 
 // The last step: where its subplan started, how many words it had and how many came in its place; its sign and the entries of its operands.
@@ -84,13 +127,7 @@ fn read_term(sizes: &[u16], stack: &mut [u16], progress: Progress, v: u16) -> Pr
     let height = progress.height;
     let size = graph::size_of(sizes, v);
     stack[height] = v;
-    Progress {
-        height: height + 1,
-        rest: progress.rest + 1,
-        count: progress.count,
-        read: progress.read + size,
-        size: progress.size,
-    }
+    progress.after_term(size)
 }
 
 // Reads a sign at which no law fits: it becomes a node.
@@ -116,13 +153,7 @@ fn read_sign(
     second[count] = operands.b;
     sizes[count] = size as u16;
     stack[under] = count as u16;
-    Progress {
-        height: under + 1,
-        rest: progress.rest + 1,
-        count: count + 1,
-        read: progress.read + 1,
-        size: progress.size,
-    }
+    progress.after_sign(under)
 }
 
 // Reads one entry more. At a sign where one of laws 5 to 32 fits, the step is made, unless no step is allowed, the list has no room for three
@@ -198,13 +229,7 @@ pub fn advance(
     }
     let front = matching::put_entries(law, tables, &*slots, todo, rest + 1);
     let at = progress.read + 1 - old;
-    let next = Progress {
-        height: operands.under,
-        rest: front,
-        count,
-        read: at,
-        size,
-    };
+    let next = progress.after_step(operands.under, front, at, size);
     let cut = Cut {
         at,
         old,

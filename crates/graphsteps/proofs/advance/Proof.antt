@@ -357,6 +357,9 @@ sub-at c =
     let d = out.old-less (s .args .tables .now) (s .pre .0 .1) (s .args .limit) (s .pre .0 .2) (s .args .allowed) (s .args .room) _ _ _ _ _ _ (s .args .progress) (fits s) (s .pre .0 .4) (low k) (high k) (o .take-operands .result) (o .take-operands .ensures) (some s) in
     omega (arith, d, l .before .before .before .before .before .redex-size .ensures)
 
+after-step-requires : tie.Need-after-step-requires
+after-step-requires c κs = tt
+
 same-length-35 : tie.Need-same-length-35
 same-length-35 c = search needs
 
@@ -380,14 +383,14 @@ same-length-41 c = search needs
 
 returns-8 : tie.Need-returns-8
 returns-8 c =
-    let l = c .before .before .before .before .before .before .before .before .before .before .before .before .before .before .before .before in
+    let l = c .before .before .before .before .before .before .before .before .before .before .before .before .before .before .before .before .before in
     let o = operands l in
     let k = o .before .before in
     let s = begun l in
-    let z = c .before .before .before .before .before .before .before in
+    let z = c .before .before .before .before .before .before .before .before in
     let n0 = z .before .before .before .before .before .before .if3 .left in
-    let e = c .before .before .before .put-entries .ensures in
-    out.on-step (s .args .tables .now) (s .pre .0 .1) (s .args .limit) (s .pre .0 .2) (s .args .allowed) (s .args .room) _ _ _ _ _ _ (s .args .progress) (fits s) (s .pre .0 .4) (low k) (high k) (o .take-operands .result) (o .take-operands .ensures) _ (l .first-law-at .result) (chose l) n0 (slotted l) _ (l .before .before .before .before .before .redex-size .ensures .0) _ (z .before .entries-len .ensures .0) (c .before .before .before .before .before .before .if7 .left) (omega (arith, z .before .before .before .before .before .if5 .left)) (omega (arith, z .before .before .before .before .if6 .left)) _ (e .1) (e .0)
+    let e = c .before .before .before .before .put-entries .ensures in
+    out.on-step (s .args .tables .now) (s .pre .0 .1) (s .args .limit) (s .pre .0 .2) (s .args .allowed) (s .args .room) _ _ _ _ _ _ (s .args .progress) (fits s) (s .pre .0 .4) (low k) (high k) (o .take-operands .result) (o .take-operands .ensures) _ (l .first-law-at .result) (chose l) n0 (slotted l) _ (l .before .before .before .before .before .redex-size .ensures .0) _ (z .before .entries-len .ensures .0) (c .before .before .before .before .before .before .before .if7 .left) (omega (arith, z .before .before .before .before .before .if5 .left)) (omega (arith, z .before .before .before .before .if6 .left)) _ (e .1) (e .0) (c .after-step .ensures)
 
 pub advance-spec : {M : Type 1} → statement M
 advance-spec =
@@ -456,6 +459,7 @@ advance-spec =
     put-entries-requires
     add-at
     sub-at
+    after-step-requires
     same-length-35
     same-length-36
     same-length-37
