@@ -1,30 +1,25 @@
 -- The next entry of a plan under work on a graph: a term, or a sign whose operands are on the stack.
-use Prim.Native.Nat.{ℕ, zero, suc, _+_, _-_, _≤_, _<_}
+use Prim.Native.Nat.{ℕ, _+_, _-_, _≤_, _<_}
 use native.Mathlib.Omega.{arith}
 use native.Mathlib.Numerals.{add-one}
 use mathlib.Core.Path.{_≡_, refl, sym, _∙_, ap, subst}
-use mathlib.Core.List.{List, [], _∷_, _++_, append-assoc}
+use mathlib.Core.List.{List, [], _∷_, _++_}
 use mathlib.Core.Option.{Option, none, some}
-use lib.ListN.{length, getD, take, drop, length-append, length-drop}
+use lib.ListN.{length, getD, drop}
 use lib.Seq.{drop-cons}
-use Rattle.tables.specs.Tables.{Tables, actions}
 use Rattle.plans.specs.declared.Word.{Word}
-use Rattle.plans.specs.declared.Word.the-variants.{Action, One, Two, NoWord}
 use Rattle.plans.specs.declared.Unary.{Unary}
 use Rattle.plans.specs.declared.Binary.{Binary}
 use Rattle.plans.specs.Word.{unary-word, binary-word, word-of}
-use Rattle.plans.specs.Term.{Term, act, un, bin, words, Set-number, Over, push, read, and-then, sole, term-of}
-use Rattle.plans.specs.Stack.{spell, stacked}
+use Rattle.plans.specs.Term.{Term, act, words, Set-number, push, read, and-then, sole, term-of}
+use Rattle.plans.specs.Stack.{spell}
 use Rattle.plans.specs.Judging.{words-refusal}
 use Rattle.plans.proofs.Options.{never, and-then-some}
-use Rattle.plans.proofs.Words.{Spelled, is-action, is-one, is-two, is-none, spelled, binary-range, unary-low}
+use Rattle.plans.proofs.Words.{Spelled, is-action, is-one, is-two, is-none, spelled}
 use Rattle.plans.proofs.Reading.{Over-all, read-append, read-spell}
 use Rattle.plans.proofs.Accepted.{accepted-term}
-use Rattle.graph.specs.Graph.{Graph, Holds, leaf, Root, root-one, root-two, Held, held-none, held-more, Written, as-word, as-term, ToRead, read-none, read-more, entry-size}
-use Rattle.graph.proofs.Terms.{holds-over}
+use Rattle.graph.specs.Graph.{Graph, Holds, leaf, Written, as-word, as-term, ToRead, read-more}
 use Rattle.graph.proofs.Reading.{written-node, written-action}
-use Rattle.graphsteps.specs.declared.Operands.{Operands}
-use Rattle.graphsteps.specs.Holding.{Signed, signed-one, signed-two, TakenFor, takes-one, takes-two, size-under}
 
 -- the first of the entries still to read, and the words that it is written as
 pub record First (n : ℕ) (g : Graph) (v : ℕ) (vs ws : List ℕ) : Type 0 where

@@ -1,10 +1,10 @@
 -- What `advance` asks of the functions that it calls, and what it answers, by what the next entry is.
-use Prim.Native.Nat.{ℕ, suc, _+_, _-_, _≤_, _<_}
+use Prim.Native.Nat.{ℕ, _+_, _-_, _≤_, _<_}
 use native.Mathlib.Omega.{arith}
-use mathlib.Core.Path.{_≡_, refl, sym, _∙_, ap, subst}
-use mathlib.Core.List.{List, [], _∷_, _++_}
+use mathlib.Core.Path.{_≡_, refl, _∙_, ap}
+use mathlib.Core.List.{List, _∷_, _++_}
 use mathlib.Core.Option.{Option, none, some}
-use lib.ListN.{length, getD, take, drop, set}
+use lib.ListN.{length, getD, set}
 use lib.Seq.{length-take-le}
 use Rattle.areas.specs.Area.{overwrite}
 use Rattle.tables.specs.Tables.{Tables, actions, communication}
@@ -12,15 +12,13 @@ use Rattle.tables.specs.Lawful.{Lawful}
 use Rattle.plans.specs.Term.{Term, words}
 use Rattle.plans.specs.Stack.{spell}
 use Rattle.plans.proofs.Words.{unary-low}
-use Rattle.matching.specs.Choice.{first-law}
 use Rattle.matching.specs.Slots.{RootTerm, ChosenAt, none-at, chosen-at, ChosenRoot, Slots, SideSize, SizesReach, ActionSlots, side-entries, entries-size}
 use Rattle.graph.specs.Graph.{Graph, Nodes, Holds, Root, root-one, root-two, ToRead}
 use Rattle.graph.proofs.Reading.{holds-inside}
 use Rattle.graphsteps.specs.declared.Progress.{Progress}
-use Rattle.graphsteps.specs.declared.Cut.{Cut}
 use Rattle.graphsteps.specs.declared.Operands.{Operands}
 use Rattle.graphsteps.specs.declared.Advancing.the-variants.{On, Step}
-use Rattle.graphsteps.specs.Holding.{Arrays, arrays, in-use, Fits, Holding, SomePlan, Signed, TakenFor, takes-one, takes-two, SizesOf, size-under, after-term, after-sign, with-step, Advanced, AdvancedOn}
+use Rattle.graphsteps.specs.Holding.{Arrays, arrays, in-use, Fits, Holding, SomePlan, Signed, TakenFor, SizesOf, size-under, after-term, after-sign, with-step, AdvancedOn}
 use Rattle.graphsteps.proofs.Entries.{SignAt, sign-at, sign-word, node-term, action-term}
 use Rattle.graphsteps.proofs.Redexes.{Redex, redex, signed}
 use Rattle.graphsteps.proofs.Terms.{held-over, next-entry, some-room, term-read}

@@ -1,7 +1,7 @@
 -- A sign with its operands on the stack: the term at its place, and how many words it has.
-use Prim.Native.Nat.{ℕ, suc, _+_, _-_, _≤_, _<_}
+use Prim.Native.Nat.{ℕ, _+_, _-_, _≤_, _<_}
 use native.Mathlib.Omega.{arith}
-use mathlib.Core.Path.{_≡_, refl, sym, _∙_, ap, subst}
+use mathlib.Core.Path.{_≡_, refl, _∙_, ap, subst}
 use mathlib.Core.List.{List, [], _∷_, _++_, append-assoc}
 use lib.ListN.{length, getD, length-append}
 use borrow.Author.Tests.{lt-ltb, le-ltb}
@@ -11,7 +11,7 @@ use Rattle.plans.specs.Word.{unary-word, binary-word}
 use Rattle.plans.specs.Term.{Term, un, bin, words, Set-number}
 use Rattle.plans.specs.Stack.{spell, stacked}
 use Rattle.plans.proofs.Words.{binary-range, unary-low}
-use Rattle.graph.specs.Graph.{Graph, Holds, Root, root-one, root-two, Held, held-none, held-more, entry-size}
+use Rattle.graph.specs.Graph.{Graph, Holds, Root, root-one, root-two, Held, held-more}
 use Rattle.graph.proofs.Stacks.{stacked-length, stacked-top}
 use Rattle.graph.proofs.Reading.{held-long, sized-holds}
 use Rattle.steps.proofs.Quiet.{sign-one, sign-two}

@@ -1,5 +1,5 @@
 -- A sign at which no law fits is read: with its operands it becomes a node, which goes on the stack.
-use Prim.Native.Nat.{ℕ, zero, suc, _+_, _-_, _≤_, _<_}
+use Prim.Native.Nat.{ℕ, _+_, _-_, _≤_, _<_}
 use native.Mathlib.Omega.{arith}
 use native.Mathlib.Numerals.{add-one}
 use mathlib.Core.Path.{_≡_, refl, sym, _∙_, ap, subst}
@@ -14,20 +14,19 @@ use lib.Seq.{take-suc-set, length-take-le, getD-set-same, getD-set-other}
 use Rattle.tables.specs.Tables.{Tables, actions}
 use Rattle.tables.specs.Lawful.{Lawful}
 use Rattle.plans.specs.Term.{Term, words}
-use Rattle.plans.specs.Stack.{spell, stacked}
+use Rattle.plans.specs.Stack.{spell}
 use Rattle.plans.proofs.Reading.{Over-all}
 use Rattle.matching.specs.Choice.{first-law}
-use Rattle.graph.specs.Graph.{Graph, graph, Holds, Root, Held, held-more, entry-size}
+use Rattle.graph.specs.Graph.{Graph, Holds, held-more}
 use Rattle.graph.proofs.Terms.{holds-same, root-over}
 use Rattle.graph.proofs.Stacks.{stacked-push}
 use Rattle.graph.proofs.Growing.{grown, holds-grown, root-grown, held-grown, to-read-grown, holds-new, grown-split}
 use Rattle.steps.specs.Choice.{next-step}
 use Rattle.steps.proofs.Quiet.{quiet-last, next-none}
 use Rattle.graphsteps.specs.declared.Progress.{Progress}
-use Rattle.graphsteps.specs.declared.Cut.{Cut}
 use Rattle.graphsteps.specs.declared.Operands.{Operands}
 use Rattle.graphsteps.specs.declared.Advancing.the-variants.{On}
-use Rattle.graphsteps.specs.Holding.{Arrays, arrays, in-use, Fits, Holding, CutOf, after-sign, size-under, Advanced, went-on}
+use Rattle.graphsteps.specs.Holding.{Arrays, arrays, in-use, Fits, Holding, after-sign, size-under, Advanced, went-on}
 use Rattle.graphsteps.proofs.Entries.{First, sign-word}
 use Rattle.graphsteps.proofs.Redexes.{Redex, redex-long, stack-long}
 use Rattle.graphsteps.proofs.Terms.{held-over, next-entry, some-room}

@@ -1,9 +1,9 @@
 -- A step is made at a sign: the right side of its law is put before the entries still to read.
-use Prim.Native.Nat.{ℕ, suc, _+_, _-_, _≤_, _<_}
+use Prim.Native.Nat.{ℕ, _+_, _-_, _≤_, _<_}
 use native.Mathlib.Omega.{arith}
-use mathlib.Core.Path.{_≡_, refl, sym, _∙_, ap, subst}
-use mathlib.Core.List.{List, [], _∷_, _++_, append-assoc}
-use mathlib.Core.Option.{none, some}
+use mathlib.Core.Path.{_≡_, refl, sym, _∙_, ap}
+use mathlib.Core.List.{List, _∷_, _++_, append-assoc}
+use mathlib.Core.Option.{some}
 use lib.ListN.{length, getD, take, drop, length-append, length-drop}
 use lib.Seq.{take-at, drop-at}
 use Rattle.areas.specs.Area.{overwrite}
@@ -11,15 +11,14 @@ use Rattle.areas.proofs.Area.{drop-overwrite, overwrite-length}
 use Rattle.tables.specs.Tables.{Tables, actions}
 use Rattle.tables.specs.Lawful.{Lawful}
 use Rattle.plans.specs.Term.{Term, words}
-use Rattle.plans.specs.Stack.{spell, stacked}
-use Rattle.plans.proofs.Reading.{Over-all}
+use Rattle.plans.specs.Stack.{spell}
 use Rattle.laws.proofs.Stepping.{step-alike}
 use Rattle.matching.specs.Choice.{first-law}
-use Rattle.matching.specs.Slots.{side-entries, entries-size}
-use Rattle.graph.specs.Graph.{Graph, Holds, Root, Held, ToRead, read-none, read-more}
+use Rattle.matching.specs.Slots.{entries-size}
+use Rattle.graph.specs.Graph.{Graph, Holds, ToRead, read-none, read-more}
 use Rattle.graph.proofs.Terms.{root-over}
 use Rattle.graph.proofs.Reading.{to-read-append, to-read-long, sized-written}
-use Rattle.steps.specs.Choice.{Found, next-step}
+use Rattle.steps.specs.Choice.{next-step}
 use Rattle.steps.proofs.Choosing.{next-taken}
 use Rattle.steps.proofs.Prefixes.{quiet-fewer}
 use Rattle.steps.proofs.Quiet.{next-found}
@@ -28,9 +27,8 @@ use Rattle.graphsteps.specs.declared.Cut.{Cut}
 use Rattle.graphsteps.specs.declared.Operands.{Operands}
 use Rattle.graphsteps.specs.declared.Advancing.the-variants.{Step}
 use Rattle.graphsteps.specs.Holding.{Arrays, arrays, in-use, Fits, Holding, CutOf, size-under, Advanced, stepped}
-use Rattle.graphsteps.proofs.Entries.{First}
 use Rattle.graphsteps.proofs.Redexes.{Redex}
-use Rattle.graphsteps.proofs.Terms.{held-over, next-entry}
+use Rattle.graphsteps.proofs.Terms.{held-over}
 use Rattle.graphsteps.proofs.Signs as Signs
 use Rattle.graphsteps.proofs.Signs.{f, plan-at, redex-size}
 

@@ -1,18 +1,17 @@
 -- An entry that stands for a term is read: it goes on the stack.
-use Prim.Native.Nat.{ℕ, suc, _+_, _-_, _≤_, _<_}
+use Prim.Native.Nat.{ℕ, _+_, _-_, _≤_, _<_}
 use native.Mathlib.Omega.{arith}
-use mathlib.Core.Path.{_≡_, refl, sym, _∙_, ap, subst}
-use mathlib.Core.List.{List, [], _∷_, _++_, append-assoc}
+use mathlib.Core.Path.{_≡_, refl, sym, _∙_, ap}
+use mathlib.Core.List.{List, _∷_, _++_, append-assoc}
 use mathlib.Core.Option.{none}
-use lib.ListN.{length, getD, take, drop, set, length-append, length-set}
+use lib.ListN.{length, getD, drop, set, length-append, length-set}
 use lib.Seq.{length-take-le}
 use Rattle.tables.specs.Tables.{Tables, actions}
 use Rattle.tables.specs.Lawful.{Lawful}
-use Rattle.plans.specs.Term.{Term, act, words, Over}
-use Rattle.plans.specs.Stack.{spell, stacked}
-use Rattle.plans.proofs.Accepted.{words-some}
+use Rattle.plans.specs.Term.{Term, words}
+use Rattle.plans.specs.Stack.{spell}
 use Rattle.plans.proofs.Reading.{Over-all}
-use Rattle.graph.specs.Graph.{Graph, Holds, leaf, one, two, Held, held-none, held-more, entry-size}
+use Rattle.graph.specs.Graph.{Graph, Holds, leaf, one, two, Held, held-none, held-more}
 use Rattle.graph.proofs.Terms.{holds-over}
 use Rattle.graph.proofs.Stacks.{stacked-push}
 use Rattle.graph.proofs.Reading.{holds-inside, written-long, sized-holds}

@@ -5,7 +5,7 @@ use borrow.Author.Tests.{le-leb, le-ltb}
 use mathlib.Core.Path.{_≡_, refl}
 use mathlib.Core.List.{List, [], _∷_, _++_}
 use lib.ListN.{length, take, drop, set, replicate}
-use mathlib.Core.Option.{Option, none}
+use mathlib.Core.Option.{none}
 use Rattle.tables.specs.Tables.{Tables, actions, communication, below, blocked}
 use Rattle.tables.specs.Search.{first-from}
 use Rattle.tables.specs.Judging.{entry-right, byte-right, null-right, swap-right, group-right, least-right, order-right, content-refusal, table-refusal}

@@ -1,7 +1,6 @@
 // The lines that the program prints.
 use crate::text;
 use refusals::Refusal;
-ghost use mathlib.Core.Path.{_≡_};
 ghost use Prim.Native.Nat.{_+_, _*_, _≤_};
 ghost use lib.ListN.{length};
 ghost use Rattle.steps.specs.Records.{moves-of};

@@ -1,5 +1,4 @@
 // Text put into an area: a number behind a label, and the end of a line.
-ghost use mathlib.Core.Path.{_≡_};
 ghost use Prim.Native.Nat.{_+_, _≤_, _<_};
 ghost use lib.ListN.{length};
 ghost use Rattle.listing.specs.Text.{labelled, line-end};

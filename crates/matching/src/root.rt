@@ -10,12 +10,10 @@ ghost use Prim.Native.Nat.{_+_, _-_, _≤_, _<_};
 ghost use mathlib.Core.List.{[]};
 ghost use lib.ListN.{length, getD};
 ghost use Rattle.plans.specs.Stack.{stacked};
-ghost use Rattle.areas.specs.Area.{overwrite};
 ghost use Rattle.tables.specs.Tables.{actions};
-ghost use Rattle.tables.specs.Lawful.{Lawful};
 ghost use Rattle.graph.specs.Graph.{graph, Nodes};
 ghost use Rattle.matching.specs.Check.{check-at};
-ghost use Rattle.matching.specs.Slots.{RootTerm, MatchedRoot, holds-at, entry-for, side-entries, ChosenRoot, Slots, FineSlots, no-slots, Entry, turned, sign-turn, entry-turn};
+ghost use Rattle.matching.specs.Slots.{RootTerm, MatchedRoot, holds-at, entry-for, Slots, FineSlots, no-slots, Entry, turned, sign-turn, entry-turn};
 
 // Empties the slots: dead stop for each letter, and set 0 for ∂.
 pub fn clear_slots(slots: &mut [u16])

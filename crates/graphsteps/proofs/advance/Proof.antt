@@ -1,17 +1,14 @@
 -- One entry more of a plan under work on a graph, by what the entry is and by whether a law fits there.
 use native.Mathlib.Omega.{arith}
 use borrow.Author.Needs.{needs}
-use Prim.Native.Nat.{ℕ, _+_, _-_, _≤_, _<_}
-use mathlib.Core.Path.{_≡_, refl, sym, _∙_, ap, subst}
-use mathlib.Core.List.{List}
-use lib.ListN.{length, getD}
+use Prim.Native.Nat.{_-_, _<_}
+use mathlib.Core.Path.{refl, sym}
+use lib.ListN.{getD}
 use lib.Seq.{length-take-le}
 use Rattle.tables.specs.Tables.{actions}
-use Rattle.graphsteps.specs.declared.Progress.{Progress}
 use Rattle.graph.specs.Graph.{Graph}
 use Rattle.matching.specs.Slots.{ChosenRoot, Slots}
-use Rattle.graphsteps.specs.declared.Operands.{Operands}
-use Rattle.graphsteps.specs.Holding.{Arrays, arrays, in-use, Fits, SomePlan, Signed, TakenFor, SizesOf, size-under, stuck}
+use Rattle.graphsteps.specs.Holding.{Arrays, arrays, in-use, Fits, SomePlan, stuck}
 use Rattle.graphsteps.proofs.Terms.{some-room, node-inside}
 use Rattle.graphsteps.proofs.Outcomes as out
 use Rattle.graphsteps.proofs.advance.Statement.{statement}
