@@ -1,0 +1,3 @@
+mod Parts
+mod Signs
+pub mod Ending
