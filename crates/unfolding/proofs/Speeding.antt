@@ -1,14 +1,12 @@
 -- Steps made on a graph: the plan under work is what the graph holds at first, and the plan that it holds at last is under work again.
-use Prim.Native.Nat.{ℕ, suc, zero, _+_, _-_, _*_, _%_, _≤_}
+use Prim.Native.Nat.{ℕ, _+_, _-_, _≤_, _<_}
 use native.Mathlib.Omega.{arith}
 use mathlib.Core.Path.{_≡_, refl, sym, _∙_, ap}
-use mathlib.Core.Bool.{Bool, true, false, not}
 use mathlib.Core.List.{List, [], _++_, append-nil}
 use mathlib.Core.Option.{none}
 use lib.ListN.{length, take, drop, length-append}
 use lib.Seq.{length-take-le}
-use lib.Dec.{eqb}
-use borrow.Author.Tests.{eqb-true, eqb-false, eq-eqb, ne-eqb}
+use borrow.Author.Tests.{ne-eqb}
 use Rattle.areas.specs.Area.{overwrite}
 use Rattle.areas.proofs.Area.{overwrite-none}
 use Rattle.tables.specs.Tables.{Tables, actions}
@@ -18,7 +16,6 @@ use Rattle.plans.specs.Term.{Term, words}
 use Rattle.plans.specs.Stack.{spell, stacked}
 use Rattle.plans.specs.Judging.{words-refusal}
 use Rattle.buffer.specs.declared.State.{State}
-use Rattle.buffer.specs.Areas.{even?}
 use Rattle.buffer.specs.Buffer.{whole, moved, before}
 use Rattle.buffer.proofs.Whole.{held-loaded}
 use Rattle.graph.specs.Graph.{Graph, Holds, held-none, Nodes}
@@ -30,17 +27,7 @@ use Rattle.graphsteps.specs.declared.Progress.{Progress}
 use Rattle.graphsteps.specs.Holding.{Arrays, arrays, in-use, Fits, Holding, SomePlan, CutOf}
 use Rattle.unfolding.specs.Unfolding.{run}
 use Rattle.unfolding.specs.declared.graph_run.Walked.{Walked}
-use Rattle.unfolding.specs.Walking.{Loaded, PlanOf, WroteOut, WalkedOf, none-made, some-made, RedexOf, RedexIn, SpedOf}
-
--- the parity of a count of steps, by its remainder
-flipped : (k : ℕ) (b : Bool) → eqb (k % 2) 0 ≡ b → not b ≡ eqb (suc k % 2) 0
-flipped k true e = sym (ne-eqb (suc k % 2) 0 (λ q. omega (arith, eqb-true (k % 2) 0 e)))
-flipped k false e = sym (eq-eqb (suc k % 2) 0 (omega (arith, eqb-false (k % 2) 0 e)))
-
-pub even-rest : (k : ℕ) → eqb (k % 2) 0 ≡ even? k
-unfolding even?
-even-rest zero = refl
-even-rest (suc k) = sym (ap not (sym (even-rest k)) ∙ flipped k (eqb (k % 2) 0) refl)
+use Rattle.unfolding.specs.Walking.{Loaded, PlanOf, WroteOut, Counted, WalkedOf, none-made, some-made, RedexOf, RedexIn, SpedOf}
 
 -- The plan loaded -----------------------------------------------------------------------------------------------------------------------------
 
@@ -128,35 +115,32 @@ again t left starts right right′ w s s′ work none-read long o accepted =
     (e, record { held = rw none-read h; accepted = rw e accepted })
 
 -- the nodes and the plan after the walk, whether steps were made or not
-pub reached : {t : Tables} {c allowed used : ℕ} {list list′ : List ℕ} {m′ : Arrays} {w : List ℕ} {r : Walked} → WalkedOf t c allowed used list list′ m′ w r
+pub reached : {t : Tables} {c allowed used : ℕ} {list list′ : List ℕ} {m′ : Arrays} {w : List ℕ} {s : State} {r : Walked} → WalkedOf t c allowed used list list′ m′ w s r
     → Fits m′ (r .progress) × SomePlan t c m′ (r .progress)
-reached {w} (none-made e l f h) = (f, record { some-plan = w; holding = h })
-reached (some-made v′ w′ rs a b e l u f h k s runs) = (f, record { some-plan = w′; holding = h })
+reached {w} (none-made e a u q f h) = (f, record { some-plan = w; holding = h })
+reached (some-made v′ w′ rs n q u l f h k i runs) = (f, record { some-plan = w′; holding = h })
 
 -- some steps were made, and the last of them took the plan v to w′
-pub record Steps (t : Tables) (c allowed used : ℕ) (list list′ : List ℕ) (m′ : Arrays) (w : List ℕ) (r : Walked) : Type 0 where
+pub record Steps (t : Tables) (c allowed used : ℕ) (list list′ : List ℕ) (m′ : Arrays) (w : List ℕ) (s : State) (r : Walked) : Type 0 where
   pub v : List ℕ
   pub w′ : List ℕ
   pub rs : List ℕ
-  pub some-steps : 1 ≤ r .made
-  pub few-steps : r .made ≤ allowed
+  pub counted : Counted s allowed (r .state) (r .allowed) (r .cut)
   pub records : list′ ≡ overwrite list used rs
-  pub records-long : length rs ≡ 3 * r .made
-  pub room : used + length rs ≤ length list
+  pub used-is : r .used ≡ used + length rs
+  pub used-low : r .used ≤ length list
   pub holding : Holding t c m′ (r .progress) w′
   pub cut : CutOf (actions t) (in-use m′ (r .progress .count)) (r .cut) v w′
   pub short : length v ≤ c
-  pub runs : (k : ℕ) (v₀ r₀ : List ℕ)
-      → run t c allowed (length list - used) k w v₀ r₀
-      ≡ run t c (allowed - r .made) (length list - (used + length rs)) (k + r .made) w′ v (r₀ ++ rs)
+  pub runs : (v₀ r₀ : List ℕ) → run t c allowed (length list - used) (s .steps) w v₀ r₀ ≡ run t c (r .allowed) (length list - r .used) (r .state .steps) w′ v (r₀ ++ rs)
 
-module _ (t : Tables) (c allowed used : ℕ) (list list′ : List ℕ) (m′ : Arrays) (w : List ℕ) (r : Walked) where
-  pub steps-made : WalkedOf t c allowed used list list′ m′ w r → (r .made ≡ 0 → ⊥) → Steps t c allowed used list list′ m′ w r
-  steps-made (none-made z same f h) some = absurd (some z)
-  steps-made (some-made v w′ rs a b e l u f h k s runs) some =
-      record { v = v; w′ = w′; rs = rs; some-steps = a; few-steps = b; records = e; records-long = l; room = u; holding = h; cut = k; short = s; runs = runs }
+module _ (t : Tables) (c allowed used : ℕ) (list list′ : List ℕ) (m′ : Arrays) (w : List ℕ) (s : State) (r : Walked) where
+  pub steps-made : WalkedOf t c allowed used list list′ m′ w s r → r .allowed < allowed → Steps t c allowed used list list′ m′ w s r
+  steps-made (none-made e a u q f h) some = absurd (omega arith)
+  steps-made (some-made v w′ rs n q u l f h k i runs) some =
+      record { v = v; w′ = w′; rs = rs; counted = n; records = q; used-is = u; used-low = l; holding = h; cut = k; short = i; runs = runs }
 
-  module _ (h : Steps t c allowed used list list′ m′ w r) where
+  module _ (h : Steps t c allowed used list list′ m′ w s r) where
     pub old-short : r .cut .old ≤ c
     old-short =
         let k = h .cut in
@@ -167,15 +151,24 @@ module _ (t : Tables) (c allowed used : ℕ) (list list′ : List ℕ) (m′ : A
     pub redex-of : Lawful t → RedexOf (in-use m′ (r .progress .count)) (r .cut)
     redex-of ok = record { n = actions t; few = ok .well-formed .few-actions; redex = h .cut .redex; root = h .cut .root; old-is = h .cut .old-is }
 
+-- the words that the last step took away stand in their area where steps were made; else the area is as it was
+pub data OldOf (allowed : ℕ) (g : Graph) (r : Walked) (old old′ : List ℕ) : Type 0 where
+  put-old : r .allowed < allowed → RedexIn g (r .cut) old′ → length old′ ≡ length old → OldOf allowed g r old old′
+  same-old : allowed ≤ r .allowed → old′ ≡ old → OldOf allowed g r old old′
+
+pub old-long : {allowed : ℕ} {g : Graph} {r : Walked} {old old′ : List ℕ} → OldOf allowed g r old old′ → length old′ ≡ length old
+old-long (put-old i x l) = l
+old-long (same-old i e) = ap length e
+
 -- The run sped up -----------------------------------------------------------------------------------------------------------------------------
 
 module _ (t : Tables) (c allowed used : ℕ) (left starts right old list : List ℕ) (s : State) (ok : Lawful t) (work : Working t left starts right s)
     (kept : Kept c (plan-in left right s) old s) (low : used ≤ length list) (m′ : Arrays) (r : Walked) (right′ list′ : List ℕ) (front : ℕ) (long : length right′ ≡ 16384)
     (out : WroteOut (in-use m′ (r .progress .count)) (m′ .stack) (r .progress .height) (m′ .todo) (r .progress .rest) right′ front) where
-  pub sped-none : r .made ≡ 0 → WalkedOf t c allowed used list list′ m′ (plan-in left right s) r
+  -- no step was made
+  sped-none : list′ ≡ list → Holding t c m′ (r .progress) (plan-in left right s)
       → SpedOf t c allowed used left starts right old list right′ old list′ s (record { state = moved s 0 front; allowed = allowed; used = used })
-  sped-none z (some-made v w′ rs a b e l u f h k i runs) = absurd (omega arith)
-  sped-none z (none-made z′ same f h) =
+  sped-none same h =
       let w = plan-in left right s in
       let s′ = moved s 0 front in
       let p = again t left starts right right′ w s s′ work refl long (plan-out t c m′ (r .progress) w ok h right′ front out) (h .accepted) in
@@ -192,28 +185,22 @@ module _ (t : Tables) (c allowed used : ℕ) (left starts right old list : List 
         runs = λ r₀. rw (p .0, before-moved w old s s′ refl, append-nil r₀);
       }
 
-  -- the state after the last step
+  -- the state after the last step, with nothing read
   abbrev last-state : State
-  last-state =
-      record {
-        steps = s .steps + r .made;
-        even = eqb ((s .steps + r .made) % 2) 0;
-        read = 0;
-        rest = front;
-        at = r .cut .at;
-        old = r .cut .old;
-        new = r .cut .new;
-      }
+  last-state = moved (r .state) 0 front
 
-  pub sped-some : (old′ : List ℕ) → length old′ ≡ 16384 → RedexIn (in-use m′ (r .progress .count)) (r .cut) old′ → c ≤ 16384
-      → Steps t c allowed used list list′ m′ (plan-in left right s) r
-      → SpedOf t c allowed used left starts right old list right′ old′ list′ s (record { state = last-state; allowed = allowed - r .made; used = used + 3 * r .made })
+  -- some steps were made
+  sped-some : (old′ : List ℕ) → length old′ ≡ 16384 → RedexIn (in-use m′ (r .progress .count)) (r .cut) old′ → c ≤ 16384
+      → Steps t c allowed used list list′ m′ (plan-in left right s) s r
+      → SpedOf t c allowed used left starts right old list right′ old′ list′ s (record { state = last-state; allowed = r .allowed; used = r .used })
   unfolding before
   sped-some old′ old-long redex most h =
       let k = h .cut in
+      let n = h .counted in
       let w = plan-in left right s in
       let p = again t left starts right right′ (h .w′) s last-state work refl long (plan-out t c m′ (r .progress) (h .w′) ok (h .holding) right′ front out) (h .holding .accepted) in
-      let b : before last-state (h .w′) old′ ≡ h .v = rw (ne-eqb (s .steps + r .made) 0 (λ q. omega (arith, h .some-steps)), redex .redex-in (actions t) (k .redex) (ok .well-formed .few-actions) (k .root)) (sym (k .put-back)) in
+      let b : before last-state (h .w′) old′ ≡ h .v =
+      rw (ne-eqb (r .state .steps) 0 (λ q. omega (arith, n .fewer, n .count)), n .at-is, n .old-is, n .new-is, redex .redex-in (actions t) (k .redex) (ok .well-formed .few-actions) (k .root)) (sym (k .put-back)) in
       record {
         rs = h .rs;
         working = p .1;
@@ -223,19 +210,25 @@ module _ (t : Tables) (c allowed used : ℕ) (left starts right old list : List 
               undoable =
                   record {
                     old-long = old-long;
-                    old-in = omega (arith, old-short t c allowed used list list′ m′ w r h);
-                    new-in = k .inside;
+                    old-in = omega (arith, n .old-is, old-short t c allowed used list list′ m′ w s r h);
+                    new-in = omega (arith, n .at-is, n .new-is, k .inside);
                     before-fits = rw b (h .short);
                   };
               short = h .holding .short;
-              parity = even-rest (s .steps + r .made);
+              parity = n .parity (kept .parity);
             }
             );
         none-read = refl;
         records = h .records;
-        used-is = omega (arith, h .records-long);
-        used-low = omega (arith, h .records-long, h .room);
-        count = omega (arith, h .few-steps);
-        fewer = omega arith;
-        runs = λ r₀. rw (p .0, b, ← h .records-long) (h .runs (s .steps) (before s w old) r₀);
+        used-is = h .used-is;
+        used-low = h .used-low;
+        count = n .count;
+        fewer = omega (arith, n .fewer);
+        runs = λ r₀. rw (p .0, b) (h .runs (before s w old) r₀);
       }
+
+  pub sped : (old′ : List ℕ) → OldOf allowed (in-use m′ (r .progress .count)) r old old′ → c ≤ 16384 → WalkedOf t c allowed used list list′ m′ (plan-in left right s) s r
+      → SpedOf t c allowed used left starts right old list right′ old′ list′ s (record { state = last-state; allowed = r .allowed; used = r .used })
+  sped old′ (same-old i e) most (none-made e₁ e₂ e₃ same f h) = rw (e, e₁, e₂, e₃) (sped-none same h)
+  sped old′ (same-old i e) most (some-made v w′ rs n q u l f h k j runs) = absurd (omega (arith, n .fewer))
+  sped old′ (put-old i x l) most h = sped-some old′ (l ∙ kept .undoable .old-long) x most (steps-made t c allowed used list list′ m′ (plan-in left right s) s r h i)

@@ -1,14 +1,18 @@
 -- The steps made on a graph: the loop's invariant, and that one entry more keeps it.
-use Prim.Native.Nat.{ℕ, _+_, _-_, _*_, _≤_}
+use Prim.Native.Nat.{ℕ, _+_, _-_, _≤_}
 use native.Mathlib.Omega.{arith}
 use native.Mathlib.Numerals.{add-one}
-use mathlib.Core.Path.{_≡_, refl, sym, _∙_, subst}
+use mathlib.Core.Path.{_≡_, refl, _∙_, subst}
+use mathlib.Core.Bool.{not}
 use mathlib.Core.List.{List, _++_, append-assoc}
 use lib.ListN.{length, length-append}
 use Rattle.areas.specs.Area.{overwrite}
 use Rattle.areas.proofs.Area.{overwrite-two}
 use Rattle.tables.specs.Tables.{Tables, actions}
 use Rattle.plans.specs.Stack.{spell}
+use Rattle.buffer.specs.declared.State.{State}
+use Rattle.buffer.specs.Areas.{even?}
+use Rattle.buffer.specs.Buffer.{stepped as state-after}
 use Rattle.steps.specs.Records.{record-of}
 use Rattle.graphsteps.specs.declared.Progress.{Progress}
 use Rattle.graphsteps.specs.declared.Cut.{Cut}
@@ -16,37 +20,29 @@ use Rattle.graphsteps.specs.declared.Advancing.{Advancing}
 use Rattle.graphsteps.specs.declared.Advancing.the-variants.{On, Step, Stuck}
 use Rattle.graphsteps.specs.Holding.{Arrays, in-use, Fits, Holding, SomePlan, CutOf, Advanced, went-on, stepped, stuck, AdvancedOn}
 use Rattle.unfolding.specs.Unfolding.{run}
-use Rattle.unfolding.specs.Walking.{WalkedOf, none-made, some-made, WalkedOn}
+use Rattle.unfolding.specs.Walking.{Counted, WalkedOf, none-made, some-made, WalkedOn}
 use Rattle.unfolding.specs.declared.graph_run.Walked.{Walked}
 use Rattle.unfolding.proofs.Turning.{run-goes}
 
 -- what the loop answers where it stands
-abbrev pub reached : Progress → Cut → ℕ → Walked
-reached p k made = record { progress = p; cut = k; made = made }
+abbrev pub reached : Progress → Cut → State → ℕ → ℕ → Walked
+reached p k s left end =
+    record { progress = p; cut = k; state = s; allowed = left; used = end }
 
 -- the loop's invariant: the arrays hold a plan, and from whatever plan they held at first the run comes to the plan held now
-pub record Walking (t : Tables) (c allowed used : ℕ) (list₀ : List ℕ) (m₀ : Arrays) (p₀ : Progress) (list : List ℕ) (m : Arrays) (p : Progress) (k : Cut) (made end : ℕ) : Type 0 where
+pub record Walking (t : Tables) (c allowed used : ℕ) (list₀ : List ℕ) (m₀ : Arrays) (p₀ : Progress) (s₀ : State) (list : List ℕ) (m : Arrays) (p : Progress) (k : Cut) (s : State) (left end : ℕ) : Type 0 where
   pub fits : Fits m p
   pub plan : SomePlan t c m p
   pub list-long : length list ≡ length list₀
-  pub end-is : end ≡ used + 3 * made
   pub end-low : end ≤ length list
-  pub made-low : made ≤ allowed
-  pub walked : (w : List ℕ) → Holding t c m₀ p₀ w → WalkedOf t c allowed used list₀ list m w (reached p k made)
+  pub count : s .steps + left ≡ s₀ .steps + allowed
+  pub walked : (w : List ℕ) → Holding t c m₀ p₀ w → WalkedOf t c allowed used list₀ list m w s₀ (reached p k s left end)
 
 -- no step is made yet
-pub starts : {t : Tables} {c allowed used : ℕ} {list : List ℕ} {m : Arrays} {p : Progress} {k : Cut} → used ≤ length list → Fits m p → SomePlan t c m p
-    → Walking t c allowed used list m p list m p k 0 used
+pub starts : {t : Tables} {c allowed used : ℕ} {list : List ℕ} {m : Arrays} {p : Progress} {k : Cut} {s : State} → used ≤ length list → Fits m p → SomePlan t c m p
+    → Walking t c allowed used list m p s list m p k s allowed used
 starts low fits plan =
-    record {
-      fits = fits;
-      plan = plan;
-      list-long = refl;
-      end-is = omega arith;
-      end-low = low;
-      made-low = omega arith;
-      walked = λ w h. none-made refl refl fits h;
-    }
+    record { fits = fits; plan = plan; list-long = refl; end-low = low; count = refl; walked = λ w h. none-made refl refl refl refl fits h }
 
 -- the words read are at most those of the plan
 pub read-low : {t : Tables} {c : ℕ} {m : Arrays} {p : Progress} → SomePlan t c m p → p .read ≤ c
@@ -103,30 +99,34 @@ module _ {t : Tables} {c left room : ℕ} {m m′ : Arrays} {p : Progress} where
     pub same : o ≡ Stuck → SomePlan t c m p → m′ ≡ m
     same q s = same-of (subst (Advanced t c left room m m′ p (s .some-plan)) q (a .advanced (s .some-plan) (s .holding)))
 
-module _ {t : Tables} {c allowed used : ℕ} {list₀ : List ℕ} {m₀ : Arrays} {p₀ : Progress} {list : List ℕ} {m : Arrays} {p : Progress} {k : Cut} {made end : ℕ}
-    {m′ : Arrays} {p′ : Progress} (g : Walking t c allowed used list₀ m₀ p₀ list m p k made end) where
-  -- an entry was read: the plans are the same
-  walked-on : ((w : List ℕ) → Holding t c m p w → WentOn t c m m′ p p′ w) → (w : List ℕ) → WalkedOf t c allowed used list₀ list m w (reached p k made)
-      → WalkedOf t c allowed used list₀ list m′ w (reached p′ k made)
-  walked-on f w (none-made e q fits h) = none-made e q (f w h .fits) (f w h .holding)
-  walked-on f w (some-made v′ w′ rs a b q l low fits h cut short runs) =
-      some-made v′ w′ rs a b q l low (f w′ h .fits) (f w′ h .holding) (f w′ h .carried k v′ cut) short runs
+-- a step more turns the parity round
+even-next : (s : State) → s .even ≡ even? (s .steps) → not (s .even) ≡ even? (s .steps + 1)
+unfolding even?
+even-next s e = rw (add-one (s .steps), e)
 
-  pub goes-on : ((w : List ℕ) → Holding t c m p w → WentOn t c m m′ p p′ w) → Walking t c allowed used list₀ m₀ p₀ list m′ p′ k made end
+module _ {t : Tables} {c allowed used : ℕ} {list₀ : List ℕ} {m₀ : Arrays} {p₀ : Progress} {s₀ : State} {list : List ℕ} {m : Arrays} {p : Progress} {k : Cut} {s : State} {left end : ℕ}
+    {m′ : Arrays} {p′ : Progress} (g : Walking t c allowed used list₀ m₀ p₀ s₀ list m p k s left end) where
+  -- an entry was read: the plans are the same
+  walked-on : ((w : List ℕ) → Holding t c m p w → WentOn t c m m′ p p′ w) → (w : List ℕ) → WalkedOf t c allowed used list₀ list m w s₀ (reached p k s left end)
+      → WalkedOf t c allowed used list₀ list m′ w s₀ (reached p′ k s left end)
+  walked-on f w (none-made e a u q fits h) = none-made e a u q (f w h .fits) (f w h .holding)
+  walked-on f w (some-made v′ w′ rs n q u low fits h cut short runs) =
+      some-made v′ w′ rs n q u low (f w′ h .fits) (f w′ h .holding) (f w′ h .carried k v′ cut) short runs
+
+  pub goes-on : ((w : List ℕ) → Holding t c m p w → WentOn t c m m′ p p′ w) → Walking t c allowed used list₀ m₀ p₀ s₀ list m′ p′ k s left end
   goes-on f =
-      let s = g .plan in
-      let n = f (s .some-plan) (s .holding) in
+      let o = g .plan in
+      let n = f (o .some-plan) (o .holding) in
       record {
         fits = n .fits;
-        plan = record { some-plan = s .some-plan; holding = n .holding };
+        plan = record { some-plan = o .some-plan; holding = n .holding };
         list-long = g .list-long;
-        end-is = g .end-is;
         end-low = g .end-low;
-        made-low = g .made-low;
+        count = g .count;
         walked = λ w h. walked-on f w (g .walked w h);
       }
 
-  module _ {law : ℕ} {k′ : Cut} {list′ : List ℕ} (f : (w : List ℕ) → Holding t c m p w → Stepped t c (allowed - made) (length list - end) m′ p law p′ k′ w)
+  module _ {law : ℕ} {k′ : Cut} {list′ : List ℕ} (f : (w : List ℕ) → Holding t c m p w → Stepped t c left (length list - end) m′ p law p′ k′ w)
       (put : list′ ≡ overwrite list end (record-of law (p .read))) (long : length list′ ≡ length list) where
     -- a step was made: its record stands behind those before it
     abbrev rec : List ℕ
@@ -136,44 +136,49 @@ module _ {t : Tables} {c allowed used : ℕ} {list₀ : List ℕ} {m₀ : Arrays
     unfolding record-of
     three = refl
 
-    -- the step goes on with the run of those before it, whose records end at place `to`
-    more : (w : List ℕ) (h : Holding t c m p w) (a to to′ i i′ : ℕ) (v r : List ℕ) → a ≡ allowed - made → to ≡ end → to′ ≡ end + 3 → i′ ≡ i + 1
-        → run t c a (length list₀ - to) i w v r ≡ run t c (allowed - (made + 1)) (length list₀ - to′) i′ (f w h .w′) w (r ++ rec)
-    more w h a to to′ i i′ v r e₁ e₂ e₃ e₄ =
-        let q₁ : length list₀ - to ≡ length list - end = omega (arith, g .list-long) in
-        let q₂ : allowed - (made + 1) ≡ allowed - made - 1 = omega arith in
-        let q₃ : length list₀ - to′ ≡ length list - end - 3 = omega (arith, g .list-long) in
-        rw (e₁, q₁, q₂, q₃, e₄) (f w h .runs i v r)
+    -- and it is counted
+    abbrev next : State
+    next = state-after s (k′ .at) (k′ .old) (k′ .new) (p′ .rest)
 
-    walked-step : (w : List ℕ) → WalkedOf t c allowed used list₀ list m w (reached p k made) → WalkedOf t c allowed used list₀ list′ m′ w (reached p′ k′ (made + 1))
-    walked-step w (none-made e q fits h) =
+    counted : 1 ≤ left → left ≤ allowed → (s₀ .even ≡ even? (s₀ .steps) → s .even ≡ even? (s .steps)) → Counted s₀ allowed next (left - 1) k′
+    counted some low parity =
+        record { fewer = omega arith; count = omega (arith, g .count); parity = λ e. even-next s (parity e); at-is = refl; old-is = refl; new-is = refl }
+
+    -- the step goes on with the run of those before it
+    more : (w : List ℕ) (h : Holding t c m p w) (v r : List ℕ)
+        → run t c left (length list₀ - end) (s .steps) w v r ≡ run t c (left - 1) (length list₀ - (end + 3)) (s .steps + 1) (f w h .w′) w (r ++ rec)
+    more w h v r =
+        let q : length list₀ - end ≡ length list - end = omega (arith, g .list-long) in
+        let q′ : length list₀ - (end + 3) ≡ length list - end - 3 = omega (arith, g .list-long) in
+        rw (q, q′) (f w h .runs (s .steps) v r)
+
+    walked-step : (w : List ℕ) → WalkedOf t c allowed used list₀ list m w s₀ (reached p k s left end)
+        → WalkedOf t c allowed used list₀ list′ m′ w s₀ (reached p′ k′ next (left - 1) (end + 3))
+    walked-step w (none-made e a u q fits h) =
         let n = f w h in
-        let at : end ≡ used = omega (arith, g .end-is) in
-        some-made w (n .w′) rec (omega arith) (omega (arith, n .some-left)) (rw (put, q, at)) (omega (arith, three)) (omega (arith, three, n .some-room, g .list-long)) (n .fits) (n .holding) (n .cut) (h .short)
-        (λ i v r₀. more w h allowed used (used + length rec) i (i + (made + 1)) v r₀ (omega arith) (sym at) (omega (arith, three)) (omega arith))
-    walked-step w (some-made v′ w′ rs a b q l low fits h cut short runs) =
-        let n = f w′ h in
-        let at : end ≡ used + length rs = omega (arith, g .end-is) in
-        let both : length (rs ++ rec) ≡ length rs + 3 = omega (arith, three, length-append rs rec) in
         let room : end + 3 ≤ length list₀ = omega (arith, n .some-room, g .list-long, g .end-low) in
-        some-made w′ (n .w′) (rs ++ rec) (omega arith) (omega (arith, n .some-left)) (put ∙ rw (q, at) (overwrite-two list₀ used rs rec (omega (arith, three)))) (omega arith) (omega arith) (n .fits) (n .holding) (n .cut) (h .short)
-        (λ i v r₀. runs i v r₀ ∙ more w′ h (allowed - made) (used + length rs) (used + length (rs ++ rec)) (i + made) (i + (made + 1)) v′ (r₀ ++ rs) refl (sym at) (omega arith) (omega arith) ∙ rw (append-assoc r₀ rs rec))
+        some-made w (n .w′) rec (counted (n .some-left) (omega arith) (λ i. rw e i)) (rw (put, q, u)) (omega (arith, three)) room (n .fits) (n .holding) (n .cut) (h .short)
+        (λ v r₀. rw (← e, ← a, ← u) (more w h v r₀))
+    walked-step w (some-made v′ w′ rs i q u low fits h cut short runs) =
+        let n = f w′ h in
+        let room : end + 3 ≤ length list₀ = omega (arith, n .some-room, g .list-long, g .end-low) in
+        some-made w′ (n .w′) (rs ++ rec) (counted (n .some-left) (omega (arith, i .fewer)) (i .parity)) (put ∙ rw (q, u) (overwrite-two list₀ used rs rec (omega (arith, three)))) (omega (arith, three, length-append rs rec)) room (n .fits) (n .holding) (n .cut) (h .short)
+        (λ v r₀. runs v r₀ ∙ more w′ h v′ (r₀ ++ rs) ∙ rw (append-assoc r₀ rs rec))
 
-    pub goes-further : Walking t c allowed used list₀ m₀ p₀ list′ m′ p′ k′ (made + 1) (end + 3)
+    pub goes-further : Walking t c allowed used list₀ m₀ p₀ s₀ list′ m′ p′ k′ next (left - 1) (end + 3)
     goes-further =
-        let s = g .plan in
-        let n = f (s .some-plan) (s .holding) in
+        let o = g .plan in
+        let n = f (o .some-plan) (o .holding) in
         record {
           fits = n .fits;
           plan = record { some-plan = n .w′; holding = n .holding };
           list-long = long ∙ g .list-long;
-          end-is = omega (arith, g .end-is);
           end-low = omega (arith, n .some-room, g .end-low);
-          made-low = omega (arith, n .some-left);
+          count = omega (arith, n .some-left, g .count);
           walked = λ w h. walked-step w (g .walked w h);
         }
 
 -- the loop ends
-pub stops : {t : Tables} {c allowed used : ℕ} {list₀ : List ℕ} {m₀ : Arrays} {p₀ : Progress} {list : List ℕ} {m : Arrays} {p : Progress} {k : Cut} {made end : ℕ} {m′ : Arrays}
-    → Walking t c allowed used list₀ m₀ p₀ list m p k made end → m′ ≡ m → WalkedOn t c allowed used list₀ list m₀ m′ p₀ (reached p k made)
+pub stops : {t : Tables} {c allowed used : ℕ} {list₀ : List ℕ} {m₀ : Arrays} {p₀ : Progress} {s₀ : State} {list : List ℕ} {m : Arrays} {p : Progress} {k : Cut} {s : State} {left end : ℕ} {m′ : Arrays}
+    → Walking t c allowed used list₀ m₀ p₀ s₀ list m p k s left end → m′ ≡ m → WalkedOn t c allowed used list₀ list m₀ m′ p₀ s₀ (reached p k s left end)
 stops g e = rw e (record { walked = g .walked })

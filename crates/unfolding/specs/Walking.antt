@@ -1,5 +1,5 @@
 -- What many steps made on a graph come to: the run goes on from the plan that they reach.
-use Prim.Native.Nat.{ℕ, _+_, _-_, _*_, _≤_}
+use Prim.Native.Nat.{ℕ, _+_, _-_, _≤_, _<_}
 use mathlib.Core.Path.{_≡_}
 use mathlib.Core.List.{List, _++_}
 use lib.ListN.{length, take, drop}
@@ -9,6 +9,7 @@ use Rattle.plans.specs.Term.{Term, words}
 use Rattle.plans.specs.Stack.{spell, stacked}
 use Rattle.graph.specs.Graph.{Graph, Root, Held, ToRead}
 use Rattle.buffer.specs.declared.State.{State}
+use Rattle.buffer.specs.Areas.{even?}
 use Rattle.buffer.specs.Buffer.{before}
 use Rattle.steps.specs.Working.{plan-in, Working, Kept}
 use Rattle.graphsteps.specs.declared.Progress.{Progress}
@@ -38,19 +39,27 @@ pub record WroteOut (g : Graph) (stack : List ℕ) (height : ℕ) (todo : List �
   pub wrote : (n : ℕ) (terms : List Term) (behind : List ℕ) → n ≤ 31 → Held n g (stacked stack height) terms → ToRead n g (drop rest todo) behind
       → (drop r dst ≡ spell terms ++ behind) × (r + length (spell terms ++ behind) ≡ 16384)
 
+-- Some steps were made: s′ counts them and their parity, `left` of those allowed are left, and s′ tells of the last step what its cut tells.
+pub record Counted (s : State) (allowed : ℕ) (s′ : State) (left : ℕ) (k : Cut) : Type 0 where
+  pub fewer : left < allowed
+  pub count : s′ .steps + left ≡ s .steps + allowed
+  pub parity : s .even ≡ even? (s .steps) → s′ .even ≡ even? (s′ .steps)
+  pub at-is : s′ .at ≡ k .at
+  pub old-is : s′ .old ≡ k .old
+  pub new-is : s′ .new ≡ k .new
+
 -- No step was made, or some were: the records rs of these steps are in the list, from place `used` on, and the run goes on from the plan reached.
-pub data WalkedOf (t : Tables) (c allowed used : ℕ) (list list′ : List ℕ) (m′ : Arrays) (w : List ℕ) (r : Walked) : Type 0 where
-  none-made : r .made ≡ 0 → list′ ≡ list → Fits m′ (r .progress) → Holding t c m′ (r .progress) w → WalkedOf t c allowed used list list′ m′ w r
-  some-made : (v′ w′ rs : List ℕ) → 1 ≤ r .made → r .made ≤ allowed → list′ ≡ overwrite list used rs → length rs ≡ 3 * r .made → used + length rs ≤ length list
+pub data WalkedOf (t : Tables) (c allowed used : ℕ) (list list′ : List ℕ) (m′ : Arrays) (w : List ℕ) (s : State) (r : Walked) : Type 0 where
+  none-made : r .state ≡ s → r .allowed ≡ allowed → r .used ≡ used → list′ ≡ list → Fits m′ (r .progress) → Holding t c m′ (r .progress) w
+      → WalkedOf t c allowed used list list′ m′ w s r
+  some-made : (v′ w′ rs : List ℕ) → Counted s allowed (r .state) (r .allowed) (r .cut) → list′ ≡ overwrite list used rs → r .used ≡ used + length rs → r .used ≤ length list
       → Fits m′ (r .progress) → Holding t c m′ (r .progress) w′ → CutOf (actions t) (in-use m′ (r .progress .count)) (r .cut) v′ w′ → length v′ ≤ c
-      → ((k : ℕ) (v r₀ : List ℕ)
-      → run t c allowed (length list - used) k w v r₀
-      ≡ run t c (allowed - r .made) (length list - (used + length rs)) (k + r .made) w′ v′ (r₀ ++ rs))
-      → WalkedOf t c allowed used list list′ m′ w r
+      → ((v r₀ : List ℕ) → run t c allowed (length list - used) (s .steps) w v r₀ ≡ run t c (r .allowed) (length list - r .used) (r .state .steps) w′ v′ (r₀ ++ rs))
+      → WalkedOf t c allowed used list list′ m′ w s r
 
 -- whatever plan the arrays held
-pub record WalkedOn (t : Tables) (c allowed used : ℕ) (list list′ : List ℕ) (m m′ : Arrays) (p : Progress) (r : Walked) : Type 0 where
-  pub walked : (w : List ℕ) → Holding t c m p w → WalkedOf t c allowed used list list′ m′ w r
+pub record WalkedOn (t : Tables) (c allowed used : ℕ) (list list′ : List ℕ) (m m′ : Arrays) (p : Progress) (s : State) (r : Walked) : Type 0 where
+  pub walked : (w : List ℕ) → Holding t c m p w → WalkedOf t c allowed used list list′ m′ w s r
 
 -- some term that the cut of a step took away
 pub record RedexOf (g : Graph) (k : Cut) : Type 0 where

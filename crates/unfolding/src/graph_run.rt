@@ -16,11 +16,14 @@ ghost use Rattle.steps.specs.Working.{plan-in, Working, Kept};
 ghost use Rattle.graphsteps.specs.Holding.{arrays, Fits, SomePlan};
 ghost use Rattle.unfolding.specs.Walking.{Loaded, PlanOf, WroteOut, WalkedOn, RedexOf, RedexIn, SpedOf};
 
-// How far the steps on a graph have come, the last of them, and how many were made.
+// How far the steps on a graph have come, the last of them and the state after it, the steps still allowed, and how much of the list is
+// used.
 pub struct Walked {
     pub progress: Progress,
     pub cut: Cut,
-    pub made: usize,
+    pub state: State,
+    pub allowed: usize,
+    pub used: usize,
 }
 
 // The plan reached as a plan under work, the steps still allowed, and how much of the list is used.
@@ -30,7 +33,8 @@ pub struct Sped {
     pub used: usize,
 }
 
-// Reads the entries and makes steps until all are read or one cannot be made here; the records go to the list from place `used` on.
+// Reads the entries and makes steps until all are read or one cannot be made here. Each step goes into the state and off the steps allowed,
+// and its record to the list, from place `used` on.
 pub fn walk(
     tables: &[u8],
     n: u8,
@@ -43,12 +47,13 @@ pub fn walk(
     stack: &mut [u16],
     todo: &mut [u16],
     progress: Progress,
+    state: State,
     allowed: usize,
     limit: usize,
 ) -> Walked
-    requires { ⌜ (n ≡ actions (now tables)) × Lawful (now tables) × (limit ≤ 16384) × (used ≤ length (now list)) ⌝ }
+    requires { ⌜ (n ≡ actions (now tables)) × Lawful (now tables) × (limit ≤ 16384) × (used ≤ length (now list)) × (state .steps + allowed < 18446744073709551615) ⌝ }
     requires { ⌜ Fits (arrays (now own) (now first) (now second) (now sizes) (now stack) (now todo)) progress × SomePlan (now tables) limit (arrays (now own) (now first) (now second) (now sizes) (now stack) (now todo)) progress ⌝ }
-    ensures { λ r. ⌜ WalkedOn (now (tables .entry)) limit allowed used (now (list .entry)) (now (list .exit)) (arrays (now (own .entry)) (now (first .entry)) (now (second .entry)) (now (sizes .entry)) (now (stack .entry)) (now (todo .entry))) (arrays (now (own .exit)) (now (first .exit)) (now (second .exit)) (now (sizes .exit)) (now (stack .exit)) (now (todo .exit))) progress r ⌝ }
+    ensures { λ r. ⌜ WalkedOn (now (tables .entry)) limit allowed used (now (list .entry)) (now (list .exit)) (arrays (now (own .entry)) (now (first .entry)) (now (second .entry)) (now (sizes .entry)) (now (stack .entry)) (now (todo .entry))) (arrays (now (own .exit)) (now (first .exit)) (now (second .exit)) (now (sizes .exit)) (now (stack .exit)) (now (todo .exit))) progress state r ⌝ }
 {
     let mut slots = [0u16; 6];
     let mut here = progress;
@@ -60,11 +65,11 @@ pub fn walk(
         a: 0,
         b: 0,
     };
-    let mut made: usize = 0;
+    let mut reached = state;
+    let mut left: usize = allowed;
     let mut end: usize = used;
     while here.rest < MOST_WORDS {
         let room = list.len() - end;
-        let left = allowed - made;
         let place = here.read;
         let advanced = graphsteps::advance(
             tables,
@@ -89,14 +94,17 @@ pub fn walk(
                 put_record(&mut *list, end, law, place);
                 here = next;
                 cut = last;
-                made += 1;
+                reached = reached.after_step(last.at, last.old, last.new, next.rest);
+                left -= 1;
                 end += 3;
             }
             Advancing::Stuck => {
                 return Walked {
                     progress: here,
                     cut,
-                    made,
+                    state: reached,
+                    allowed: left,
+                    used: end,
                 };
             }
         }
@@ -104,7 +112,9 @@ pub fn walk(
     Walked {
         progress: here,
         cut,
-        made,
+        state: reached,
+        allowed: left,
+        used: end,
     }
 }
 
@@ -208,6 +218,7 @@ pub fn make_steps(
         &mut stack,
         &mut todo,
         progress,
+        state,
         allowed,
         limit,
     );
@@ -223,35 +234,20 @@ pub fn make_steps(
         reached.rest,
         right,
     );
-    let made = walked.made;
-    if made == 0 {
-        return Sped {
-            state: state.moved_to(0, front),
-            allowed,
-            used,
-        };
+    let remaining = walked.allowed;
+    if remaining < allowed {
+        put_redex(
+            &own[..count],
+            &first[..count],
+            &second[..count],
+            &mut stack,
+            walked.cut,
+            old,
+        );
     }
-    let cut = walked.cut;
-    put_redex(
-        &own[..count],
-        &first[..count],
-        &second[..count],
-        &mut stack,
-        cut,
-        old,
-    );
-    let steps = state.steps + made;
     Sped {
-        state: State {
-            steps,
-            even: steps % 2 == 0,
-            read: 0,
-            rest: front,
-            at: cut.at,
-            old: cut.old,
-            new: cut.new,
-        },
-        allowed: allowed - made,
-        used: used + 3 * made,
+        state: walked.state.moved_to(0, front),
+        allowed: remaining,
+        used: walked.used,
     }
 }

@@ -3,14 +3,15 @@ use native.Mathlib.Omega.{arith}
 use borrow.Author.Needs.{needs}
 use Prim.Native.Nat.{ℕ, _≤_}
 use mathlib.Core.Path.{_≡_, sym, _∙_}
+use mathlib.Core.Logic.{⊎-elim}
 use mathlib.Core.List.{List}
 use lib.ListN.{length, replicate, length-replicate}
 use lib.Seq.{length-take-le}
 use Rattle.buffer.proofs.Whole.{held-gap}
 use Rattle.steps.specs.Working.{plan-in}
-use Rattle.graphsteps.specs.Holding.{Arrays, arrays, Fits, Holding}
+use Rattle.graphsteps.specs.Holding.{Arrays, arrays, in-use, Fits, Holding}
 use Rattle.unfolding.specs.Walking.{WalkedOf}
-use Rattle.unfolding.proofs.Speeding.{fresh, loaded-holding, loaded-fits, nodes-in-use, plan-held, reached, Steps, steps-made, old-short, redex-of, sped-none, sped-some}
+use Rattle.unfolding.proofs.Speeding.{fresh, loaded-holding, loaded-fits, nodes-in-use, plan-held, reached, Steps, steps-made, old-short, redex-of, OldOf, put-old, same-old, old-long, sped}
 use Rattle.unfolding.proofs.graph_run.make_steps.Statement.{statement}
 use Rattle.unfolding.proofs.graph_run.make_steps.Tie as tie
 
@@ -37,11 +38,8 @@ walk-at c = c .before .before .before .before .before .before .before .before .b
 abbrev walk-of : tie.After-write-out → tie.After-walk
 walk-of c = c .before .before .before .before .before .before .before .before .before .before .before .before .before .before .before .before
 
-abbrev written-at : tie.Else1 → tie.After-write-out
-written-at c = c .before .before .before .before
-
-abbrev some-at : tie.After-put-redex → tie.Else1
-some-at c = c .before .before .before .before .before .before .before
+abbrev written-at : tie.After-slice-known5 → tie.After-write-out
+written-at c = c .before .before .before
 
 -- The plan before the walk, and the arrays before and after it -------------------------------------------------------------------------------
 
@@ -75,7 +73,7 @@ arrays-fit c =
 abbrev WalkedAt : tie.After-walk → Type 0
 WalkedAt c =
     let a = entry c .args in
-    WalkedOf (a .tables .now) (a .limit) (a .allowed) (a .used) (a .list .now) (c .walk .last .1 .1 .0) (arrays-after c) (plan (entry c)) (c .walk .result)
+    WalkedOf (a .tables .now) (a .limit) (a .allowed) (a .used) (a .list .now) (c .walk .last .1 .1 .0) (arrays-after c) (plan (entry c)) (a .state) (c .walk .result)
 
 walked-at : (c : tie.After-walk) → WalkedAt c
 walked-at c = c .walk .ensures .walked (plan (entry c)) (plan-loaded (load-at (c .before)))
@@ -96,13 +94,13 @@ second-in c = let f = fits-at c in omega (arith, f .second-long, f .most-nodes)
 abbrev StepsAt : tie.After-walk → Type 0
 StepsAt c =
     let a = entry c .args in
-    Steps (a .tables .now) (a .limit) (a .allowed) (a .used) (a .list .now) (c .walk .last .1 .1 .0) (arrays-after c) (plan (entry c)) (c .walk .result)
+    Steps (a .tables .now) (a .limit) (a .allowed) (a .used) (a .list .now) (c .walk .last .1 .1 .0) (arrays-after c) (plan (entry c)) (a .state) (c .walk .result)
 
-steps-at : (c : tie.Else1) → StepsAt (walk-of (written-at c))
+steps-at : (c : tie.Then1) → StepsAt (walk-of (written-at (c .before)))
 steps-at e =
-    let c = walk-of (written-at e) in
+    let c = walk-of (written-at (e .before)) in
     let a = entry c .args in
-    steps-made (a .tables .now) (a .limit) (a .allowed) (a .used) (a .list .now) (c .walk .last .1 .1 .0) (arrays-after c) (plan (entry c)) (c .walk .result) (walked-at c) (e .if1 .left)
+    steps-made (a .tables .now) (a .limit) (a .allowed) (a .used) (a .list .now) (c .walk .last .1 .1 .0) (arrays-after c) (plan (entry c)) (a .state) (c .walk .result) (walked-at c) (e .if1 .taken)
 
 -- The needs -----------------------------------------------------------------------------------------------------------------------------------
 
@@ -114,8 +112,8 @@ load-requires c κs =
     let s = c .before .before .before .before .before .before .before .before in
     (held-gap (s .pre .1 .0 .held), zeros-long 16384)
 
-sub-t31 : tie.Need-sub-t31
-sub-t31 c = omega (arith, c .before .load .ensures .long)
+sub-t29 : tie.Need-sub-t29
+sub-t29 c = omega (arith, c .before .load .ensures .long)
 
 slice-aggregate-walk : tie.Need-slice-aggregate-walk
 slice-aggregate-walk c = search needs
@@ -139,7 +137,7 @@ walk-requires : tie.Need-walk-requires
 walk-requires c κs =
     let k = load-at c in
     let p = start k .pre .0 in
-    ((p .0, p .1, p .2, p .3), (arrays-fit k, record { some-plan = plan (start k); holding = plan-loaded k }))
+    ((p .0, p .1, p .2, p .3, p .4), (arrays-fit k, record { some-plan = plan (start k); holding = plan-loaded k }))
 
 array-share-prefix-own : tie.Need-array-share-prefix-own
 array-share-prefix-own c = own-in (walk-at c)
@@ -175,24 +173,6 @@ write-out-requires c κs =
       (f .stack-long, f .todo-long, s .pre .1 .0 .held .right-long, f .rest-in),
     )
 
-moved-to-requires : tie.Need-moved-to-requires
-moved-to-requires c κs = search needs
-
-same-length : tie.Need-same-length
-same-length c = search needs
-
-same-length-2 : tie.Need-same-length-2
-same-length-2 c = search needs
-
-returns : tie.Need-returns
-returns c =
-    let d = c .before .before .before .before .before in
-    let k = walk-of d in
-    let w = d .write-out in
-    let s = entry k in
-    let a = s .args in
-    rw (c .moved-to .ensures) (sped-none (a .tables .now) (a .limit) (a .allowed) (a .used) (a .left .now) (a .starts .now) (a .right .now) (a .old .now) (a .list .now) (a .state) (s .pre .0 .1) (s .pre .1 .0) (s .pre .1 .1) (s .pre .0 .3) (arrays-after k) (k .walk .result) (w .last .1 .1 .1 .1 .1 .1 .1 .0) (k .walk .last .1 .1 .0) (w .result) (w .kept .1 .1 .1 .1 .1 .1 .1 .0 ∙ s .pre .1 .0 .held .right-long) (w .ensures) (c .before .if1 .taken) (walked-at k))
-
 array-share-prefix-own-2 : tie.Need-array-share-prefix-own-2
 array-share-prefix-own-2 c = own-in (walk-of (written-at (c .before)))
 
@@ -216,56 +196,47 @@ slice-aggregate-put-redex-4 c = search needs
 
 put-redex-requires : tie.Need-put-redex-requires
 put-redex-requires c κs =
-    let e = c .before .before .before .before .before .before in
-    let d = written-at e in
+    let e = c .before .before .before .before .before in
+    let d = written-at (e .before) in
     let k = walk-of d in
     let s = entry k in
     let a = s .args in
     let h = steps-at e in
-    let l = old-short (a .tables .now) (a .limit) (a .allowed) (a .used) (a .list .now) (k .walk .last .1 .1 .0) (arrays-after k) (plan (entry k)) (k .walk .result) h in (
-      (nodes-in-use (arrays-after k) (k .walk .result .progress) (fits-at k), redex-of (a .tables .now) (a .limit) (a .allowed) (a .used) (a .list .now) (k .walk .last .1 .1 .0) (arrays-after k) (plan (entry k)) (k .walk .result) h (s .pre .0 .1)),
+    let l = old-short (a .tables .now) (a .limit) (a .allowed) (a .used) (a .list .now) (k .walk .last .1 .1 .0) (arrays-after k) (plan (entry k)) (a .state) (k .walk .result) h in (
+      (nodes-in-use (arrays-after k) (k .walk .result .progress) (fits-at k), redex-of (a .tables .now) (a .limit) (a .allowed) (a .used) (a .list .now) (k .walk .last .1 .1 .0) (arrays-after k) (plan (entry k)) (a .state) (k .walk .result) h (s .pre .0 .1)),
       (d .write-out .kept .1 .1 .1 .0 ∙ fits-at k .stack-long, s .pre .1 .1 .undoable .old-long, omega (arith, s .pre .0 .2)),
     )
 
-add-steps : tie.Need-add-steps
-add-steps c =
-    let e = some-at (c .before .before .before .before) in
-    omega (arith, steps-at e .few-steps, entry (walk-of (written-at e)) .pre .0 .4)
+-- the words that the last step took away, whether steps were made or not
+abbrev OldAt : tie.Joined1 → Type 0
+OldAt c =
+    let k = walk-of (written-at (c .before)) in
+    OldOf (entry k .args .allowed) (in-use (arrays-after k) (k .walk .result .progress .count)) (k .walk .result) (entry k .args .old .now) (c .if1 .old)
 
-sub-t72 : tie.Need-sub-t72
-sub-t72 c = steps-at (some-at (c .before .before .before .before)) .few-steps
+old-at : (c : tie.Joined1) → OldAt c
+old-at c =
+    ⊎-elim (λ w. rw (w .10) (put-old (w .0 .taken) (w .6 .ensures) (w .6 .kept .1 .1 .1 .1 .1 .0))) (λ w. same-old (w .0 .left) (w .1)) (c .if1 .came)
 
-mul-t73 : tie.Need-mul-t73
-mul-t73 c =
-    let e = some-at (c .before .before .before .before) in
-    let h = steps-at e in
-    omega (arith, h .records-long, h .room, entry (walk-of (written-at e)) .good .1 .1 .0)
+moved-to-requires : tie.Need-moved-to-requires
+moved-to-requires c κs = search needs
 
-add-t74 : tie.Need-add-t74
-add-t74 c =
-    let e = some-at (c .before .before .before .before) in
-    let h = steps-at e in
-    omega (arith, h .records-long, h .room, entry (walk-of (written-at e)) .good .1 .1 .0)
+same-length : tie.Need-same-length
+same-length c = search needs
+
+same-length-2 : tie.Need-same-length-2
+same-length-2 c = search needs
 
 same-length-3 : tie.Need-same-length-3
-same-length-3 c = search needs
+same-length-3 c = old-long (old-at (c .before))
 
-same-length-4 : tie.Need-same-length-4
-same-length-4 c = search needs
-
-same-length-5 : tie.Need-same-length-5
-same-length-5 c = search needs
-
-returns-2 : tie.Need-returns-2
-returns-2 c =
-    let p = c .before .before .before .before in
-    let d = written-at (some-at p) in
+returns : tie.Need-returns
+returns c =
+    let d = written-at (c .before .before) in
     let k = walk-of d in
     let w = d .write-out in
     let s = entry k in
     let a = s .args in
-    let q = p .put-redex in
-    sped-some (a .tables .now) (a .limit) (a .allowed) (a .used) (a .left .now) (a .starts .now) (a .right .now) (a .old .now) (a .list .now) (a .state) (s .pre .0 .1) (s .pre .1 .0) (s .pre .1 .1) (s .pre .0 .3) (arrays-after k) (k .walk .result) (w .last .1 .1 .1 .1 .1 .1 .1 .0) (k .walk .last .1 .1 .0) (w .result) (w .kept .1 .1 .1 .1 .1 .1 .1 .0 ∙ s .pre .1 .0 .held .right-long) (w .ensures) (q .last .1 .1 .1 .1 .1 .0) (q .kept .1 .1 .1 .1 .1 .0 ∙ s .pre .1 .1 .undoable .old-long) (q .ensures) (s .pre .0 .2) (steps-at (some-at p))
+    rw (c .moved-to .ensures) (sped (a .tables .now) (a .limit) (a .allowed) (a .used) (a .left .now) (a .starts .now) (a .right .now) (a .old .now) (a .list .now) (a .state) (s .pre .0 .1) (s .pre .1 .0) (s .pre .1 .1) (s .pre .0 .3) (arrays-after k) (k .walk .result) (w .last .1 .1 .1 .1 .1 .1 .1 .0) (k .walk .last .1 .1 .0) (w .result) (w .kept .1 .1 .1 .1 .1 .1 .1 .0 ∙ s .pre .1 .0 .held .right-long) (w .ensures) (c .before .if1 .old) (old-at (c .before)) (s .pre .0 .2) (walked-at k))
 
 pub make-steps-spec : {M : Type 1} → statement M
 make-steps-spec =
@@ -273,7 +244,7 @@ make-steps-spec =
     (tie.spec
     slice-aggregate-load
     load-requires
-    sub-t31
+    sub-t29
     slice-aggregate-walk
     slice-aggregate-walk-2
     slice-aggregate-walk-3
@@ -290,10 +261,6 @@ make-steps-spec =
     slice-aggregate-write-out-4
     slice-aggregate-write-out-5
     write-out-requires
-    moved-to-requires
-    same-length
-    same-length-2
-    returns
     array-share-prefix-own-2
     slice-aggregate-put-redex
     array-share-prefix-first-2
@@ -302,11 +269,8 @@ make-steps-spec =
     slice-aggregate-put-redex-3
     slice-aggregate-put-redex-4
     put-redex-requires
-    add-steps
-    sub-t72
-    mul-t73
-    add-t74
+    moved-to-requires
+    same-length
+    same-length-2
     same-length-3
-    same-length-4
-    same-length-5
-    returns-2)
+    returns)

@@ -15,13 +15,13 @@ use Rattle.unfolding.proofs.graph_run.walk.Statement.{statement}
 use Rattle.unfolding.proofs.graph_run.walk.Tie as tie
 
 abbrev Inv-loop : tie.InvT-loop
-Inv-loop tables n list₀ used own₀ first₀ second₀ sizes₀ stack₀ todo₀ allowed limit slots₀ here₀ cut₀ made₀ end₀ list own first second sizes stack todo slots here cut made end =
-    Walking tables limit allowed used list₀ (arrays own₀ first₀ second₀ sizes₀ stack₀ todo₀) here₀ list (arrays own first second sizes stack todo) here cut made end
+Inv-loop tables n list₀ used own₀ first₀ second₀ sizes₀ stack₀ todo₀ allowed limit slots₀ here₀ cut₀ reached₀ left₀ end₀ list own first second sizes stack todo slots here cut reached left end =
+    Walking tables limit allowed used list₀ (arrays own₀ first₀ second₀ sizes₀ stack₀ todo₀) here₀ reached₀ list (arrays own first second sizes stack todo) here cut reached left end
     × (length slots ≡ 6)
 
 abbrev μ-loop : tie.MeasureT-loop
-μ-loop tables n list₀ used own₀ first₀ second₀ sizes₀ stack₀ todo₀ allowed limit slots₀ here₀ cut₀ made₀ end₀ list own first second sizes stack todo slots here cut made end =
-    16385 * (allowed - made) + (16384 - here .rest)
+μ-loop tables n list₀ used own₀ first₀ second₀ sizes₀ stack₀ todo₀ allowed limit slots₀ here₀ cut₀ reached₀ left₀ end₀ list own first second sizes stack todo slots here cut reached left end =
+    16385 * left + (16384 - here .rest)
 
 -- the call of a turn, the head of the loop, and the function's entry
 abbrev called : tie.After-slots2 Inv-loop μ-loop → tie.After-advance Inv-loop μ-loop
@@ -54,7 +54,7 @@ abbrev Further : tie.After-advance Inv-loop μ-loop → ℕ → Progress → Cut
 Further k law p cut =
     let l = at-loop k in
     let a = entry l .args in
-    (w : List ℕ) → Holding (a .tables .now) (a .limit) (held k) (l .loop .here) w → Stepped (a .tables .now) (a .limit) (a .allowed - l .loop .made) (length (l .loop .list) - l .loop .end) (held-next k) (l .loop .here) law p cut w
+    (w : List ℕ) → Holding (a .tables .now) (a .limit) (held k) (l .loop .here) w → Stepped (a .tables .now) (a .limit) (l .loop .left) (length (l .loop .list) - l .loop .end) (held-next k) (l .loop .here) law p cut w
 
 further : (k : tie.After-advance Inv-loop μ-loop) (law : ℕ) (p : Progress) (cut : Cut) → k .advance .result ≡ Step law p cut → Further k law p cut
 further k law p cut q = step (k .advance .ensures) q
@@ -67,9 +67,6 @@ loop-holds c = let p = c .before .before .before .before .before .before .before
 
 sub-room : tie.Need-sub-room Inv-loop μ-loop
 sub-room c = c .before .before .loop .inv .0 .end-low
-
-sub-left : tie.Need-sub-left Inv-loop μ-loop
-sub-left c = c .before .before .loop .inv .0 .made-low
 
 slice-aggregate-advance : tie.Need-slice-aggregate-advance Inv-loop μ-loop
 slice-aggregate-advance c = search needs
@@ -104,7 +101,7 @@ Went c =
     let l = at-loop k in
     let a = entry l .args in
     let d = c .before .advanced2 .given .0 in
-    Stepped (a .tables .now) (a .limit) (a .allowed - l .loop .made) (length (l .loop .list) - l .loop .end) (held-next k) (l .loop .here) (d .0) (d .1 .0) (d .1 .1 .0) (l .loop .inv .0 .plan .some-plan)
+    Stepped (a .tables .now) (a .limit) (l .loop .left) (length (l .loop .list) - l .loop .end) (held-next k) (l .loop .here) (d .0) (d .1 .0) (d .1 .1 .0) (l .loop .inv .0 .plan .some-plan)
 
 went : (c : tie.After-known-told2 Inv-loop μ-loop) → Went c
 went c =
@@ -118,28 +115,32 @@ put-record-requires c κs =
     let n = went (c .before) in
     (omega (arith, n .some-room, l .loop .inv .0 .end-low), omega (arith, read-low (l .loop .inv .0 .plan), entry l .pre .0 .2))
 
-add-made : tie.Need-add-made Inv-loop μ-loop
-add-made c =
+after-step-requires : tie.Need-after-step-requires Inv-loop μ-loop
+after-step-requires c κs =
     let n = went (c .before .before .before .before) in
     let l = at-loop (called (c .before .before .before .before .before .before .before)) in
-    omega (arith, n .some-left, entry l .fits .allowed)
+    omega (arith, n .some-left, l .loop .inv .0 .count, entry l .pre .0 .4)
+
+sub-left : tie.Need-sub-left Inv-loop μ-loop
+sub-left c = went (c .before .before .before .before .before) .some-left
 
 add-end : tie.Need-add-end Inv-loop μ-loop
 add-end c =
-    let n = went (c .before .before .before .before) in
-    let l = at-loop (called (c .before .before .before .before .before .before .before)) in
+    let n = went (c .before .before .before .before .before) in
+    let l = at-loop (called (c .before .before .before .before .before .before .before .before)) in
     omega (arith, n .some-room, l .loop .inv .0 .list-long, entry l .good)
 
 loop-less-2 : tie.Need-loop-less-2 Inv-loop μ-loop
 loop-less-2 c =
-    let n = went (c .before .before .before .before) in
+    let n = went (c .before .before .before .before .before) in
     omega (arith, n .some-left)
 
 loop-again-2 : tie.Need-loop-again-2 Inv-loop μ-loop
 loop-again-2 c =
-    let k = called (c .before .before .before .before .before .before .before) in
-    let r = c .before .before .put-record in
-    (goes-further (at-loop k .loop .inv .0) (further k _ _ _ (c .before .before .before .before .before .advanced2 .given .1)) (r .ensures) (r .kept .0), slots-long k)
+    let d = c .before .before .before .before .before in
+    let k = called (d .before .before .before) in
+    let r = c .before .before .before .put-record in
+    (rw (c .after-step .ensures) (goes-further (at-loop k .loop .inv .0) (further k _ _ _ (d .before .advanced2 .given .1)) (r .ensures) (r .kept .0)), slots-long k)
 
 enum-told : tie.Need-enum-told Inv-loop μ-loop
 enum-told c = search needs
@@ -209,7 +210,6 @@ walk-spec =
     μ-loop
     loop-holds
     sub-room
-    sub-left
     slice-aggregate-advance
     advance-requires
     enum-known-advanced
@@ -217,7 +217,8 @@ walk-spec =
     loop-again
     enum-known-advanced-2
     put-record-requires
-    add-made
+    after-step-requires
+    sub-left
     add-end
     loop-less-2
     loop-again-2
