@@ -15,7 +15,6 @@ use Rattle.steps.specs.declared.Stepping.the-variants.{Done, Fails, Long}
 use Rattle.steps.specs.Records.{Move, moves-of}
 use Rattle.steps.specs.Working.{plan-in, Working, Kept, Same, StepOf, done, fails, long}
 use Rattle.steps.proofs.Making.{kept-moved, before-moved}
-use Rattle.reader.specs.declared.Cursor.{Cursor}
 use Rattle.checking.specs.Checking.{replay, unknown-law}
 use Rattle.checking.specs.Turns.{compared, Replayed}
 use Rattle.checking.proofs.Cutting.{Step-read}
@@ -53,13 +52,13 @@ module _ (t : Tables) (c : ℕ) (rewriting w v : List ℕ) (at : ℕ) (left star
   unfolding replay compared
   turn-end e = record { working = g .working; kept = g .kept; outcome = λ claimed. sym (g .rest claimed) ∙ rw e refl }
 
-  module _ (k q : ℕ) (next : Cursor) (r : Step-read rewriting at k q next) where
+  module _ (k q next : ℕ) (r : Step-read rewriting at k q next) where
     -- the law of the next move is known
-    pub law-next : (1 ≤ k) × (k ≤ 32) × (unknown-law (s .steps + 1) (moves-of (drop (next .at) rewriting)) ≡ none)
-    law-next = known-first (s .steps) (record { law = k; place = q }) (moves-of (drop (next .at) rewriting)) (rw (r .moves) at (g .known))
+    pub law-next : (1 ≤ k) × (k ≤ 32) × (unknown-law (s .steps + 1) (moves-of (drop next rewriting)) ≡ none)
+    law-next = known-first (s .steps) (record { law = k; place = q }) (moves-of (drop next rewriting)) (rw (r .moves) at (g .known))
 
     module _ (left′ starts′ right′ old′ : List ℕ) (s′ : State) where
-      pub turn-done : StepOf t k q c left starts right old left′ starts′ right′ old′ s (Done s′) → Going t c rewriting w v (next .at) left′ starts′ right′ old′ s′
+      pub turn-done : StepOf t k q c left starts right old left′ starts′ right′ old′ s (Done s′) → Going t c rewriting w v next left′ starts′ right′ old′ s′
       turn-done (done x n e h made) =
           record {
             working = made .working;
@@ -68,7 +67,7 @@ module _ (t : Tables) (c : ℕ) (rewriting w v : List ℕ) (at : ℕ) (left star
             known = rw (made .next-steps) (law-next .2);
             rest = λ claimed.
                 rw (made .next-plan, made .next-before, made .next-steps)
-                (sym (replay-made t c claimed (record { law = k; place = q }) (moves-of (drop (next .at) rewriting)) (s .steps) (plan-in left right s) (before s (plan-in left right s) old) n e h)
+                (sym (replay-made t c claimed (record { law = k; place = q }) (moves-of (drop next rewriting)) (s .steps) (plan-in left right s) (before s (plan-in left right s) old) n e h)
                 ∙ rw (r .moves) at (g .rest claimed));
           }
 
@@ -92,11 +91,11 @@ module _ (t : Tables) (c : ℕ) (rewriting w v : List ℕ) (at : ℕ) (left star
       unfolding compared
       turn-fails (fails x e same o) =
           stopped 31 same o (λ claimed. refl)
-          (λ claimed. rw (r .moves) (replay-fails t c claimed (record { law = k; place = q }) (moves-of (drop (next .at) rewriting)) (s .steps) (plan-in left right s) (before s (plan-in left right s) old) e))
+          (λ claimed. rw (r .moves) (replay-fails t c claimed (record { law = k; place = q }) (moves-of (drop next rewriting)) (s .steps) (plan-in left right s) (before s (plan-in left right s) old) e))
 
       pub turn-long : StepOf t k q c left starts right old left′ starts′ right′ old′ s (Long s′)
           → Replayed t c (moves-of rewriting) 0 w v left′ starts′ right′ old′ (record { number = 32; state = s′ })
       unfolding compared
       turn-long (long x n e h same o) =
           stopped 32 same o (λ claimed. refl)
-          (λ claimed. rw (r .moves) (replay-long t c claimed (record { law = k; place = q }) (moves-of (drop (next .at) rewriting)) (s .steps) (plan-in left right s) (before s (plan-in left right s) old) n e h))
+          (λ claimed. rw (r .moves) (replay-long t c claimed (record { law = k; place = q }) (moves-of (drop next rewriting)) (s .steps) (plan-in left right s) (before s (plan-in left right s) old) n e h))

@@ -1,6 +1,5 @@
 // The checker: the replay of anybody's rewriting.
 use buffer::State;
-use reader::Cursor;
 use reader::Record;
 use refusals::Judgement;
 use refusals::Place;
@@ -48,10 +47,10 @@ pub struct Last {
 fn judge_laws(rewriting: &[u8]) -> Judgement
     ensures { λ r. ⌜ r ≡ judged (unknown-law 0 (moves-of (now (rewriting .entry)))) ⌝ }
 {
-    let mut cursor = Cursor { at: 0 };
+    let mut at: usize = 0;
     let mut step: usize = 0;
     loop {
-        let record = cursor.next(rewriting);
+        let record = reader::record_at(rewriting, at);
         match record {
             Record::End => {
                 return Judgement::Accepted;
@@ -63,7 +62,7 @@ fn judge_laws(rewriting: &[u8]) -> Judgement
                         place: Place::Step(step),
                     });
                 }
-                cursor = next;
+                at = next;
                 step += 1;
             }
         }
@@ -116,9 +115,9 @@ fn replay_on(
     ensures { λ r. ⌜ Replayed (now (tables .entry)) limit (moves-of (now (rewriting .entry))) 0 (plan-in (now (left .entry)) (now (right .entry)) state) (before state (plan-in (now (left .entry)) (now (right .entry)) state) (now (old .entry))) (now (left .exit)) (now (starts .exit)) (now (right .exit)) (now (old .exit)) r ⌝ }
 {
     let mut gap = state;
-    let mut cursor = Cursor { at: 0 };
+    let mut at: usize = 0;
     loop {
-        let record = cursor.next(rewriting);
+        let record = reader::record_at(rewriting, at);
         match record {
             Record::End => {
                 return Last {
@@ -142,7 +141,7 @@ fn replay_on(
                 match made {
                     Stepping::Done(after) => {
                         gap = after;
-                        cursor = next;
+                        at = next;
                     }
                     Stepping::Fails(last) => {
                         return Last {

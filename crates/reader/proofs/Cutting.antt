@@ -19,7 +19,7 @@ module _ (ws : List ℕ) (p : ℕ) where
   unfolding record-at
   record-short h = sym (short-end (drop p ws) p (rw (length-drop p ws) (omega arith)))
 
-  pub record-there : p + 3 ≤ length ws → Step (getD ws p 0) (getD ws (p + 1) 0 + 256 * getD ws (p + 2) 0) (record { at = p + 3 }) ≡ record-at ws p
+  pub record-there : p + 3 ≤ length ws → Step (getD ws p 0) (getD ws (p + 1) 0 + 256 * getD ws (p + 2) 0) (p + 3) ≡ record-at ws p
   unfolding record-at
   record-there h =
       let a : p + 1 ≡ suc p = omega arith in

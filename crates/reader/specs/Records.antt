@@ -10,7 +10,7 @@ abbrev pub record-in : List ℕ → ℕ → Record
 record-in [] p = End
 record-in (k ∷ []) p = End
 record-in (k ∷ (l ∷ [])) p = End
-record-in (k ∷ (l ∷ (h ∷ r))) p = Step k (l + 256 * h) (record { at = p + 3 })
+record-in (k ∷ (l ∷ (h ∷ r))) p = Step k (l + 256 * h) (p + 3)
 
 -- the same of a whole rewriting: the rest begins at position p
 unfoldable pub record-at : List ℕ → ℕ → Record

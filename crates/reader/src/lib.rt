@@ -1,16 +1,12 @@
-// A rewriting, read "three bytes to a step" (01): a covered cursor, then the thin form, a struct that holds the lent rewriting and a position.
-// The borrow checker covers no function over that struct: `open`, `next` and `record_at` are proved by hand.
+// A rewriting, read "three bytes to a step" (01): the covered form, `step_at` with a position that its caller holds, then the thin form, a
+// struct that holds the lent rewriting and a position. The borrow checker covers no function over that struct: `open`, `next` and
+// `record_at` are proved by hand.
 ghost use mathlib.Core.Path.{_≡_};
 ghost use Rattle.reader.specs.Records.{record-at};
 
-// A position in a rewriting.
-pub struct Cursor {
-    pub at: usize,
-}
-
 // What stands at a position: a step, by law and place, and the position after it; or the end.
 pub enum Record {
-    Step(u8, usize, Cursor),
+    Step(u8, usize, usize),
     End,
 }
 
@@ -27,16 +23,7 @@ pub fn step_at(rewriting: &[u8], at: usize) -> Record
     let law = rewriting[at];
     let low = rewriting[at + 1] as usize;
     let high = rewriting[at + 2] as usize;
-    Record::Step(law, low + 256 * high, Cursor { at: at + 3 })
-}
-
-impl Cursor {
-    // The next step of a rewriting, three bytes to a step.
-    pub fn next(self, rewriting: &[u8]) -> Record
-        ensures { λ r. ⌜ r ≡ record-at (now (rewriting .entry)) (self .at) ⌝ }
-    {
-        step_at(rewriting, self.at)
-    }
+    Record::Step(law, low + 256 * high, at + 3)
 }
 
 // "A reader goes through a rewriting": the lent rewriting, and a position in it.

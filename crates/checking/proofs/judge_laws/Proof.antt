@@ -17,17 +17,17 @@ use Rattle.checking.proofs.judge_laws.Statement.{statement}
 use Rattle.checking.proofs.judge_laws.Tie as tie
 
 abbrev Inv-loop : tie.InvT-loop
-Inv-loop rewriting cursor₀ step₀ cursor step =
-    (step ≤ cursor .at) × (unknown-law step (moves-of (drop (cursor .at) rewriting)) ≡ unknown-law 0 (moves-of rewriting))
+Inv-loop rewriting at₀ step₀ at step =
+    (step ≤ at) × (unknown-law step (moves-of (drop at rewriting)) ≡ unknown-law 0 (moves-of rewriting))
 
 abbrev μ-loop : tie.MeasureT-loop
-μ-loop rewriting cursor₀ step₀ cursor step = length rewriting - cursor .at
+μ-loop rewriting at₀ step₀ at step = length rewriting - at
 
 loop-holds : tie.Need-loop-holds Inv-loop μ-loop
 loop-holds c = (omega arith, refl)
 
-next-requires : tie.Need-next-requires Inv-loop μ-loop
-next-requires c κs = search needs
+record-at-requires : tie.Need-record-at-requires Inv-loop μ-loop
+record-at-requires c κs = search needs
 
 enum-told : tie.Need-enum-told Inv-loop μ-loop
 enum-told c = search needs
@@ -36,8 +36,8 @@ enum-told c = search needs
 ended : (c : tie.After-enum-told Inv-loop μ-loop) → unknown-law 0 (moves-of (c .before .before .before .before .before .args .rewriting .now)) ≡ none
 unfolding unknown-law
 ended c =
-    let m : moves-of (drop (c .before .before .before .loop .cursor .at) (c .before .before .before .before .before .args .rewriting .now)) ≡ [] =
-    moves-end _ _ (sym (c .enum-told .given .1) ∙ c .before .before .next .ensures) in
+    let m : moves-of (drop (c .before .before .before .loop .at) (c .before .before .before .before .before .args .rewriting .now)) ≡ [] =
+    moves-end _ _ (sym (c .enum-told .given .1) ∙ c .before .before .record-at .ensures) in
     sym (c .before .before .before .loop .inv .1) ∙ rw m refl
 
 returns : tie.Need-returns Inv-loop μ-loop
@@ -48,9 +48,9 @@ enum-known-record c = search needs
 
 -- a step read
 read : (c : tie.After-record Inv-loop μ-loop)
-    → Step-read (c .before .before .before .before .before .args .rewriting .now) (c .before .before .before .loop .cursor .at)
+    → Step-read (c .before .before .before .before .before .args .rewriting .now) (c .before .before .before .loop .at)
     (c .«record» .given .0 .0) (c .«record» .given .0 .1 .0) (c .«record» .given .0 .1 .1 .0)
-read c = moves-step _ _ _ _ _ (sym (c .«record» .given .1) ∙ c .before .before .next .ensures)
+read c = moves-step _ _ _ _ _ (sym (c .«record» .given .1) ∙ c .before .before .record-at .ensures)
 
 returns-2 : tie.Need-returns-2 Inv-loop μ-loop
 returns-2 c =
@@ -80,7 +80,7 @@ judge-laws-spec =
     Inv-loop
     μ-loop
     loop-holds
-    next-requires
+    record-at-requires
     enum-told
     returns
     enum-known-record

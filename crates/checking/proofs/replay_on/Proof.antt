@@ -13,11 +13,11 @@ use Rattle.checking.proofs.replay_on.Statement.{statement}
 use Rattle.checking.proofs.replay_on.Tie as tie
 
 abbrev Inv-loop : tie.InvT-loop
-Inv-loop tables n rewriting left₀ starts₀ right₀ old₀ limit gap₀ cursor₀ left starts right old gap cursor =
-    Going tables limit rewriting (plan-in left₀ right₀ gap₀) (before gap₀ (plan-in left₀ right₀ gap₀) old₀) (cursor .at) left starts right old gap
+Inv-loop tables n rewriting left₀ starts₀ right₀ old₀ limit gap₀ at₀ left starts right old gap at =
+    Going tables limit rewriting (plan-in left₀ right₀ gap₀) (before gap₀ (plan-in left₀ right₀ gap₀) old₀) at left starts right old gap
 
 abbrev μ-loop : tie.MeasureT-loop
-μ-loop tables n rewriting left₀ starts₀ right₀ old₀ limit gap₀ cursor₀ left starts right old gap cursor = length rewriting - cursor .at
+μ-loop tables n rewriting left₀ starts₀ right₀ old₀ limit gap₀ at₀ left starts right old gap at = length rewriting - at
 
 loop-holds : tie.Need-loop-holds Inv-loop μ-loop
 loop-holds c =
@@ -30,8 +30,8 @@ loop-holds c =
       rest = λ claimed. rw (p .1 .2) refl;
     }
 
-next-requires : tie.Need-next-requires Inv-loop μ-loop
-next-requires c κs = search needs
+record-at-requires : tie.Need-record-at-requires Inv-loop μ-loop
+record-at-requires c κs = search needs
 
 enum-told : tie.Need-enum-told Inv-loop μ-loop
 enum-told c = search needs
@@ -64,15 +64,15 @@ same-length-4 : tie.Need-same-length-4 Inv-loop μ-loop
 same-length-4 c = kept (c .before .before .before) .3
 
 returns : tie.Need-returns Inv-loop μ-loop
-returns c = turn-end _ _ _ _ _ _ _ _ _ _ _ (c .before .before .before .loop .inv) (moves-end _ _ (sym (c .enum-told .given .1) ∙ c .before .before .next .ensures))
+returns c = turn-end _ _ _ _ _ _ _ _ _ _ _ (c .before .before .before .loop .inv) (moves-end _ _ (sym (c .enum-told .given .1) ∙ c .before .before .record-at .ensures))
 
 enum-known-record : tie.Need-enum-known-record Inv-loop μ-loop
 enum-known-record c = search needs
 
 -- a step read
 read : (c : tie.After-record Inv-loop μ-loop)
-    → Step-read (c .before .before .before .before .before .before .before .before .before .before .args .rewriting .now) (c .before .before .before .loop .cursor .at) (c .«record» .given .0 .0) (c .«record» .given .0 .1 .0) (c .«record» .given .0 .1 .1 .0)
-read c = moves-step _ _ _ _ _ (sym (c .«record» .given .1) ∙ c .before .before .next .ensures)
+    → Step-read (c .before .before .before .before .before .before .before .before .before .before .args .rewriting .now) (c .before .before .before .loop .at) (c .«record» .given .0 .0) (c .«record» .given .0 .1 .0) (c .«record» .given .0 .1 .1 .0)
+read c = moves-step _ _ _ _ _ (sym (c .«record» .given .1) ∙ c .before .before .record-at .ensures)
 
 make-step-requires : tie.Need-make-step-requires Inv-loop μ-loop
 make-step-requires c κs =
@@ -135,7 +135,7 @@ replay-on-spec =
     Inv-loop
     μ-loop
     loop-holds
-    next-requires
+    record-at-requires
     enum-told
     same-length
     same-length-2
