@@ -1,5 +1,5 @@
 -- What the unfolding and the checker answer, in 01's numbers, and what is claimed of them, from their outcomes.
-use Prim.Native.Nat.{ℕ}
+use Prim.Native.Nat.{ℕ, _*_}
 use mathlib.Core.Path.{_≡_, refl, sym, _∙_, ap, subst}
 use mathlib.Core.Bool.{Bool, true, false, cond}
 use mathlib.Core.List.{List, [], _∷_}
@@ -10,6 +10,7 @@ use borrow.Author.Tests.{eqb-true}
 use Rattle.refusals.specs.declared.Refusal.{Refusal}
 use Rattle.refusals.specs.Refusal.{Report}
 use Rattle.tables.specs.Tables.{Tables}
+use Rattle.areas.specs.Area.{padded}
 use Rattle.buffer.specs.Areas.{capacity, even?}
 use Rattle.unfolding.specs.declared.Unfolded.{Unfolded}
 use Rattle.unfolding.specs.declared.Unfolded.the-variants.{Finished, Stopped, Refused as Not-unfolded}
@@ -21,9 +22,9 @@ use Rattle.checking.specs.Checking.{Replay, replay-of, checked, check-refusal, 
 use Rattle.checking.specs.Checking as checking-of
 use Rattle.demands.specs.Claims.{Reports, finished, stopped, reached-part, own-rewriting, UnfoldClaims, CheckClaims, StepClaims}
 use Rattle.aberulwy.specs.declared.OwnCheck.the-variants.{Checked as Checked-as, NotChecked as Nothing-checked}
-use Rattle.demands.proofs.Claims.{unfold-claims, check-claims}
+use Rattle.demands.proofs.Claims.{unfold-claims, check-claims, take-padded, reached-is, run-records-long}
 use Rattle.demands.proofs.Single.{step-claims}
-use Rattle.aberulwy.specs.Rewriting.{unfold-report, check-report, reported-run, reported-replay, OwnOutcome, BothOutcome, own-outcome, check-own, both-outcome, OwnAccepted}
+use Rattle.aberulwy.specs.Rewriting.{unfold-report, check-report, own-report, reported-run, reported-replay, reported-own, OwnOutcome, BothOutcome, own-outcome, check-own, both-outcome, OwnAccepted}
 
 run-numbers : (r : Run) → unfold-report (unfolded r) ≡ record { number = r .number; place = 0; values = r .steps ∷ length (r .plan) ∷ [] }
 run-numbers r = go (eqb (r .number) 0) refl
@@ -101,30 +102,71 @@ module _ (t : Tables) (plan : List ℕ) (m : ℕ) (list a b c d : List ℕ) wher
   own-answer o finished = refl
   own-answer o stopped = refl
 
-  pub both-contract : (o : UnfoldOutcome) (w : OwnOutcome) → o ≡ unfold-outcome t plan m list a b → w ≡ check-own t plan o (o .answer) c d
-      → (_≡_ {A = BothOutcome} (record { unfolded = o; own = w }) (both-outcome t plan m list a b c d)) × OwnAccepted (o .answer) (w .answer) a b c d
-  unfolding both-outcome
-  both-contract o w e h = (
-    ap (λ (x : OwnOutcome). record { unfolded = o; own = x }) h
-        ∙ ap (λ (x : UnfoldOutcome). record { unfolded = x; own = check-own t plan x (x .answer) c d }) e,
-    record {
-      accepts = λ s z r i j.
-          ap (λ (x : OwnOutcome). x .answer) (h ∙ own-answer o r)
-          ∙ ap (λ (x : Checked). Checked-as x)
-          (subst (λ (x : UnfoldOutcome). UnfoldClaims t plan list a b (x .answer) (x .list) (x .a) (x .b)) (sym e) (unfold-claims t plan m list a b)
-          .own-rewriting-accepted s z r c d i j);
-    },
-  )
+  reports-run : (r : Run) → Reports (unfolded r) (r .steps) (length (r .plan))
+  reports-run r = go (eqb (r .number) 0)
+    where
+      go : (x : Bool) → Reports (cond x (Finished (r .steps) (length (r .plan))) (Stopped (r .number) (r .steps) (length (r .plan)))) (r .steps) (length (r .plan))
+      go true = finished
+      go false = stopped
 
-  abbrev Leaves : Unfolded → List ℕ → List ℕ → List ℕ → OwnOutcome → Type 0
-  Leaves x l y z w =
-      (_≡_ {A = BothOutcome} (record { unfolded = record { answer = x; list = l; a = y; b = z }; own = w }) (both-outcome t plan m list a b c d))
-      × OwnAccepted x (w .answer) a b c d
+  records-kept : (r : Run) (n : ℕ) → length (r .records) ≡ 3 * (r .steps) → own-rewriting (r .steps) (padded (r .records) n) ≡ r .records
+  unfolding own-rewriting
+  records-kept r n h = rw (← h) (take-padded (r .records) n)
+
+  -- the areas and the list hold what the run reached and recorded, and that is what the check is handed
+  own-replayed : (r : Run) → length (r .records) ≡ 3 * (r .steps)
+      → own-report (check-own t plan (unfolding-of.settled r list a b) (unfolded r) c d .answer)
+      ≡ some (reported-replay (check-refusal t plan (r .plan) (r .records) (capacity c d)) (replay-of t plan (r .plan) (r .records) (capacity c d)))
+  own-replayed r h =
+      rw (own-answer (unfolding-of.settled r list a b) (reports-run r), reached-is (even? (r .steps)) (r .plan) (r .before) (length a) (length b), records-kept r (length list) h)
+      (ap (λ (x : Report). some x) (check-numbers t plan (r .plan) (r .records) c d))
+
+  own-numbers : own-report (check-own t plan (unfold-outcome t plan m list a b) (unfold-outcome t plan m list a b .answer) c d .answer)
+      ≡ reported-own (unfold-refusal t plan (capacity a b)) t plan (run-of t plan m (length list) (capacity a b)) (capacity c d)
+  unfolding unfold-outcome check-own
+  own-numbers = go (unfold-refusal t plan (capacity a b)) refl
+    where
+      go : (o : Option Refusal) → unfold-refusal t plan (capacity a b) ≡ o
+          → own-report (check-own t plan (unfolding-of.unless-refused o (run-of t plan m (length list) (capacity a b)) list a b)
+          (unfolding-of.unless-refused o (run-of t plan m (length list) (capacity a b)) list a b .answer) c d .answer)
+          ≡ reported-own o t plan (run-of t plan m (length list) (capacity a b)) (capacity c d)
+      go none e = own-replayed (run-of t plan m (length list) (capacity a b)) (run-records-long t plan m (length list) a b e)
+      go (some f) e = refl
+
+  -- what is left, in 01's numbers, and what is claimed of it
+  abbrev Left : UnfoldOutcome → OwnOutcome → Type 0
+  Left o w =
+      (_≡_ {A = BothOutcome} (record { unfolded = o; own = w }) (both-outcome t plan m list a b c d))
+      × (((unfold-report (o .answer) ≡ reported-run (unfold-refusal t plan (capacity a b)) (run-of t plan m (length list) (capacity a b)))
+      × (own-report (w .answer) ≡ reported-own (unfold-refusal t plan (capacity a b)) t plan (run-of t plan m (length list) (capacity a b)) (capacity c d)))
+      × (UnfoldClaims t plan list a b (o .answer) (o .list) (o .a) (o .b) × OwnAccepted (o .answer) (w .answer) a b c d))
+
+  pub both-contract : (o : UnfoldOutcome) (w : OwnOutcome) → o ≡ unfold-outcome t plan m list a b → w ≡ check-own t plan o (o .answer) c d → Left o w
+  unfolding both-outcome
+  both-contract o w e h =
+      let u = unfold-contract t plan m list a b o e in (
+        ap (λ (x : OwnOutcome). record { unfolded = o; own = x }) h
+            ∙ ap (λ (x : UnfoldOutcome). record { unfolded = x; own = check-own t plan x (x .answer) c d }) e,
+        (
+          (
+            u .1 .0,
+            ap (λ (x : OwnOutcome). own-report (x .answer)) h
+                ∙ (ap (λ (x : UnfoldOutcome). own-report (check-own t plan x (x .answer) c d .answer)) e ∙ own-numbers),
+          ),
+          (
+            u .1 .1,
+            record {
+              accepts = λ s z r i j.
+                  ap (λ (x : OwnOutcome). x .answer) (h ∙ own-answer o r) ∙ ap (λ (x : Checked). Checked-as x) (u .1 .1 .own-rewriting-accepted s z r c d i j);
+            },
+          ),
+        ),
+      )
 
   -- the unfolding answered x, which reports so many steps and words, and its own rewriting was checked
   pub both-checked : {x x′ : Unfolded} {s k : ℕ} (l y z : List ℕ) → Reports x s k → x′ ≡ x
       → record { answer = x′; list = l; a = y; b = z } ≡ unfold-outcome t plan m list a b
-      → (v : CheckOutcome) → v ≡ check-outcome t plan (reached-part (even? s) k y z) (own-rewriting s l) c d → Leaves x l y z (own-outcome v)
+      → (v : CheckOutcome) → v ≡ check-outcome t plan (reached-part (even? s) k y z) (own-rewriting s l) c d → Left (record { answer = x; list = l; a = y; b = z }) (own-outcome v)
   both-checked {x} l y z r q e v h =
       both-contract (record { answer = x; list = l; a = y; b = z }) (own-outcome v)
       (subst (λ (i : Unfolded). record { answer = i; list = l; a = y; b = z } ≡ unfold-outcome t plan m list a b) q e)
@@ -132,7 +174,7 @@ module _ (t : Tables) (plan : List ℕ) (m : ℕ) (list a b c d : List ℕ) wher
 
   -- it was refused
   pub both-refused : {x : Unfolded} {f : Refusal} (l y z : List ℕ) → x ≡ Not-unfolded f → record { answer = x; list = l; a = y; b = z } ≡ unfold-outcome t plan m list a b
-      → Leaves x l y z (record { answer = Nothing-checked; a = c; b = d })
+      → Left (record { answer = x; list = l; a = y; b = z }) (record { answer = Nothing-checked; a = c; b = d })
   unfolding check-own
   both-refused {x} l y z q e =
       both-contract (record { answer = x; list = l; a = y; b = z }) (record { answer = Nothing-checked; a = c; b = d }) e (rw q)

@@ -13,7 +13,7 @@ use Rattle.unfolding.specs.declared.Unfolded.the-variants.{Finished, Stopped, R
 use Rattle.unfolding.specs.Unfolding.{Run, unfold-outcome, UnfoldOutcome}
 use Rattle.checking.specs.declared.Checked.{Checked}
 use Rattle.checking.specs.declared.Checked.the-variants.{Accepted, TurnedBack, Refused as Not-checked}
-use Rattle.checking.specs.Checking.{Replay, check-outcome, CheckOutcome}
+use Rattle.checking.specs.Checking.{Replay, replay-of, check-refusal, check-outcome, CheckOutcome}
 use Rattle.demands.specs.Claims.{Reports, reached-part, own-rewriting}
 use Rattle.aberulwy.specs.declared.OwnCheck.{OwnCheck}
 use Rattle.aberulwy.specs.declared.OwnCheck.the-variants.{Checked as Checked-as, NotChecked as Nothing-checked}
@@ -38,6 +38,17 @@ reported-run (some f) r = refused-report f
 abbrev pub reported-replay : Option Refusal → Replay → Report
 reported-replay none r = record { number = r .number; place = 0; values = r .steps ∷ length (r .plan) ∷ [] }
 reported-replay (some f) r = refused-report f
+
+-- each case of the check of an unfolding's own rewriting: the check's report, and none where nothing was checked
+abbrev pub own-report : OwnCheck → Option Report
+own-report (Checked-as x) = some (check-report x)
+own-report Nothing-checked = none
+
+-- what is reported of that check, with at most c words to a plan: none where the unfolding is refused; else what is reported of the replay of the
+-- run's records, from the given plan to the plan that the run reached
+abbrev pub reported-own : Option Refusal → Tables → List ℕ → Run → ℕ → Option Report
+reported-own none t plan r c = some (reported-replay (check-refusal t plan (r .plan) (r .records) c) (replay-of t plan (r .plan) (r .records) c))
+reported-own (some f) t plan r c = none
 
 -- the check of an unfolding's own rewriting, and everything that both answer and leave
 pub record OwnOutcome : Type 0 where

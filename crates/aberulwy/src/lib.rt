@@ -22,7 +22,7 @@ ghost use Rattle.buffer.specs.Areas.{capacity, even?};
 ghost use Rattle.unfolding.specs.Unfolding.{run-of, unfold-refusal, unfold-outcome, UnfoldOutcome};
 ghost use Rattle.checking.specs.Checking.{replay-of, check-refusal, check-outcome, CheckOutcome};
 ghost use Rattle.demands.specs.Claims.{reached-part, own-rewriting, UnfoldClaims, CheckClaims, StepClaims};
-ghost use Rattle.aberulwy.specs.Rewriting.{unfold-report, check-report, reported-run, reported-replay, both-outcome, BothOutcome, OwnAccepted};
+ghost use Rattle.aberulwy.specs.Rewriting.{unfold-report, check-report, own-report, reported-run, reported-replay, reported-own, both-outcome, BothOutcome, OwnAccepted};
 ghost use Rattle.aberulwy.specs.declared.BasicAnswer.the-variants.{Yes};
 ghost use Rattle.aberulwy.specs.Judging.{AcceptedPlan, BasicPlan, basic-answer, basic-report, bit, orders-answer, orders-report};
 
@@ -215,6 +215,8 @@ pub fn unfold_checked(
     d: &mut [u8],
 ) -> BothAnswers
     ensures whole { λ r. ⌜ _≡_ {A = BothOutcome} (record { unfolded = record { answer = r .unfolded; list = now (list .exit); a = now (a .exit); b = now (b .exit) }; own = record { answer = r .own; a = now (c .exit); b = now (d .exit) } }) (both-outcome (now (tables .entry)) (now (plan .entry)) allowance (now (list .entry)) (now (a .entry)) (now (b .entry)) (now (c .entry)) (now (d .entry))) ⌝ }
+    ensures numbers { λ r. ⌜ (unfold-report (r .unfolded) ≡ reported-run (unfold-refusal (now (tables .entry)) (now (plan .entry)) (capacity (now (a .entry)) (now (b .entry)))) (run-of (now (tables .entry)) (now (plan .entry)) allowance (length (now (list .entry))) (capacity (now (a .entry)) (now (b .entry))))) × (own-report (r .own) ≡ reported-own (unfold-refusal (now (tables .entry)) (now (plan .entry)) (capacity (now (a .entry)) (now (b .entry)))) (now (tables .entry)) (now (plan .entry)) (run-of (now (tables .entry)) (now (plan .entry)) allowance (length (now (list .entry))) (capacity (now (a .entry)) (now (b .entry)))) (capacity (now (c .entry)) (now (d .entry)))) ⌝ }
+    ensures claims { λ r. ⌜ UnfoldClaims (now (tables .entry)) (now (plan .entry)) (now (list .entry)) (now (a .entry)) (now (b .entry)) (r .unfolded) (now (list .exit)) (now (a .exit)) (now (b .exit)) ⌝ }
     ensures accepted { λ r. ⌜ OwnAccepted (r .unfolded) (r .own) (now (a .entry)) (now (b .entry)) (now (c .entry)) (now (d .entry)) ⌝ }
 {
     let unfolded = unfolding::unfold(tables, plan, allowance, &mut *list, &mut *a, &mut *b);

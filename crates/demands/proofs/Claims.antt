@@ -95,6 +95,11 @@ module _ (t : Tables) (plan : List ℕ) (m l : ℕ) (a b : List ℕ) (ok : unfol
   pub records-long : length (R .records) ≡ 3 * (R .steps)
   records-long = omega (arith, F .counted, ap length (F .is-own))
 
+  -- the same of the run as it is written out
+  pub run-records-long : length (run-of t plan m l (capacity a b) .records) ≡ 3 * (run-of t plan m l (capacity a b) .steps)
+  unfolding R c
+  run-records-long = records-long
+
   -- the own rewriting passes 16, and its replay in areas of the same lengths accepts
   pub own-accepted : (a″ b″ : List ℕ) → length a″ ≡ length a → length b″ ≡ length b
       → check-outcome t plan (R .plan) (R .records) a″ b″ .answer ≡ Accepted (R .steps) (length (R .plan))
