@@ -1,5 +1,4 @@
 pub mod Terms
 pub mod Growing
 pub mod Reading
-pub mod Stacks
 mod Writing

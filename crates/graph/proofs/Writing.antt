@@ -8,12 +8,12 @@ use lib.Seq.{take-set-le, drop-set-lt, drop-cons, getD-set-same}
 use Rattle.plans.specs.Term.{words}
 use Rattle.plans.specs.Stack.{stacked}
 use Rattle.plans.proofs.Words.{binary-range, unary-low}
+use Rattle.plans.proofs.Stack.{stacked-length, stacked-top, stacked-push}
 use Rattle.areas.specs.Area.{overwrite}
 use Rattle.areas.proofs.Area.{overwrite-none}
 use Rattle.graph.specs.Graph.{Graph, leaf, one, two, Written, as-word, as-term, ToWrite, write-none, write-more, Writable, WroteBack}
 use Rattle.graph.proofs.Terms.{holds-same}
 use Rattle.graph.proofs.Reading.{holds-inside, written-holds, to-write-long}
-use Rattle.graph.proofs.Stacks.{stacked-length, stacked-top, stacked-push}
 
 -- The words of entries are determined ---------------------------------------------------------------------------------------------------------
 

@@ -11,8 +11,8 @@ use Rattle.plans.specs.Word.{unary-word, binary-word}
 use Rattle.plans.specs.Term.{Term, un, bin, words, Set-number}
 use Rattle.plans.specs.Stack.{spell, stacked}
 use Rattle.plans.proofs.Words.{binary-range, unary-low}
+use Rattle.plans.proofs.Stack.{stacked-length, stacked-top}
 use Rattle.graph.specs.Graph.{Graph, Holds, Root, root-one, root-two, Held, held-more}
-use Rattle.graph.proofs.Stacks.{stacked-length, stacked-top}
 use Rattle.graph.proofs.Reading.{held-long, sized-holds}
 use Rattle.steps.proofs.Quiet.{sign-one, sign-two}
 use Rattle.graphsteps.specs.declared.Operands.{Operands}

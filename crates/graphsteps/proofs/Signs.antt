@@ -16,10 +16,10 @@ use Rattle.tables.specs.Lawful.{Lawful}
 use Rattle.plans.specs.Term.{Term, words}
 use Rattle.plans.specs.Stack.{spell}
 use Rattle.plans.proofs.Reading.{Over-all}
+use Rattle.plans.proofs.Stack.{stacked-push}
 use Rattle.matching.specs.Choice.{first-law}
 use Rattle.graph.specs.Graph.{Graph, Holds, held-more}
 use Rattle.graph.proofs.Terms.{holds-same, root-over}
-use Rattle.graph.proofs.Stacks.{stacked-push}
 use Rattle.graph.proofs.Growing.{grown, holds-grown, root-grown, held-grown, to-read-grown, holds-new, grown-split}
 use Rattle.steps.specs.Choice.{next-step}
 use Rattle.steps.proofs.Quiet.{quiet-last, next-none}

@@ -11,9 +11,9 @@ use Rattle.tables.specs.Lawful.{Lawful}
 use Rattle.plans.specs.Term.{Term, words}
 use Rattle.plans.specs.Stack.{spell}
 use Rattle.plans.proofs.Reading.{Over-all}
+use Rattle.plans.proofs.Stack.{stacked-push}
 use Rattle.graph.specs.Graph.{Graph, Holds, leaf, one, two, Held, held-none, held-more}
 use Rattle.graph.proofs.Terms.{holds-over}
-use Rattle.graph.proofs.Stacks.{stacked-push}
 use Rattle.graph.proofs.Reading.{holds-inside, written-long, sized-holds}
 use Rattle.steps.specs.Choice.{next-step}
 use Rattle.steps.proofs.Quiet.{quiet-push, quiet-action}

@@ -13,6 +13,7 @@ use borrow.Author.Tests.{eqb-true, leb-true}
 use Rattle.plans.specs.Word.{binary-word}
 use Rattle.plans.specs.Term.{Term, and-then}
 use Rattle.plans.specs.Stack.{stacked}
+use Rattle.plans.proofs.Stack.{stacked-length, stacked-top}
 use Rattle.laws.specs.Laws.{Pattern, any, any-action, δ, entry, node, θ, ∂, Binding, unbound, fit, law-at, laws}
 use Rattle.graph.specs.Graph.{Graph, leaf, Root}
 use Rattle.graph.proofs.Terms.{root-same}
@@ -22,7 +23,6 @@ use Rattle.matching.specs.Slots.{Bound, fails-at, fits-at, RootTerm, Mat
 use Rattle.matching.proofs.Table.{and-left, and-right, passes, passed}
 use Rattle.matching.proofs.LawTables.{left, left-at, left-of}
 use Rattle.matching.proofs.Fitting.{plain}
-use Rattle.matching.proofs.Agenda.{stacked-length, stacked-last}
 use Rattle.matching.proofs.Binding.{none-ahead, more-ahead, Midway, midway, Stepped, went, failed, Signs, sign-node, sign-θ, sign-∂, next-turn, back-some, few-ahead, some-ahead, entry-ahead, bound-slots}
 
 -- part of a table, one word after another
@@ -200,8 +200,8 @@ module _ {n : ℕ} (few : n ≤ 31) {g : Graph} {k w a b i end d : ℕ} {agenda 
     some-waits = omega (arith, under-some (f .under) (omega (arith, long)), stacked-length agenda d)
 
     pub entry-waits : Entry g (getD agenda (d - 1) 0)
-    entry-waits = under-entry few (f .under) (stacked-last agenda d some-waits)
+    entry-waits = under-entry few (f .under) (stacked-top agenda d some-waits)
 
     pub follows : Way n g k w a b (part (i + 1) end left) (entry-turn n g (getD left i 0) (getD agenda (d - 1) 0) (stacked agenda (d - 1)) slots)
     unfolding left
-    follows = under-next few (f .under) (part-more left i end (f .within) more) (stacked-last agenda d some-waits)
+    follows = under-next few (f .under) (part-more left i end (f .within) more) (stacked-top agenda d some-waits)

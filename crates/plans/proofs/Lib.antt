@@ -5,6 +5,7 @@ pub mod Reading
 pub mod Place
 pub mod Accepted
 pub mod Basic
+pub mod Stack
 mod Scanning
 pub mod Orders
 pub mod Start

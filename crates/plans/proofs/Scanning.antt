@@ -7,7 +7,7 @@ use mathlib.Core.Bool.{Bool, true, false, cond, _&&_}
 use mathlib.Core.List.{List, [], _∷_}
 use mathlib.Core.Option.{Option, none, some}
 use lib.ListN.{length, getD, set, drop, length-set, drop-of-length-le}
-use lib.Seq.{drop-cons, getD-set-same, getD-set-other}
+use lib.Seq.{drop-cons}
 use lib.Dec.{eqb, leb}
 use Rattle.plans.specs.declared.Binary.{Binary}
 use Rattle.plans.specs.declared.Binary.the-variants.{Choice, Sequence, Merge, LeftMerge, CommunicationMerge, Unless}
@@ -19,6 +19,7 @@ use Rattle.plans.specs.Term.{Term, act, un, bin, push, read, and-then, s
 use Rattle.plans.specs.Basic.{dead-stop?, live-action?, sum-plan?, basic?, basic-term?, basic-words?}
 use Rattle.plans.specs.Kinds.{action-kind, joined-kind}
 use Rattle.plans.specs.Stack.{stacked}
+use Rattle.plans.proofs.Stack.{stacked-onto, stacked-push}
 
 -- the kind of a term
 unfoldable pub kind : Term → ℕ
@@ -113,25 +114,16 @@ pub scan-basic : (n : ℕ) (ws : List ℕ) → scan n ws [] ≡ basic-words? n w
 unfolding basic-words? term-of kinds
 scan-basic n ws = scan-reads n ws []
 
-pub stacked-set : (a : List ℕ) (i v d : ℕ) → d ≤ i → stacked (set a i v) d ≡ stacked a d
-unfolding stacked
-stacked-set a i v zero h = refl
-stacked-set a i v (suc d) h = rw (getD-set-other a i d v 0 (λ e. omega arith), stacked-set a i v d (omega arith)) refl
-
-pub stacked-push : (a : List ℕ) (d v : ℕ) → d < length a → stacked (set a d v) (suc d) ≡ v ∷ stacked a d
-unfolding stacked
-stacked-push a d v h = rw (getD-set-same a d v 0 h, stacked-set a d v d (omega arith)) refl
-
 -- what an operator makes of them
 module _ (ks : List ℕ) where
   one-pushed : (o : Unary) (d e : ℕ) → d ≡ suc e → e < length ks → push-kind (One o) (stacked ks d) ≡ some (stacked (set ks e 0) d)
   unfolding push-kind stacked
-  one-pushed o d e p h = rw (p, stacked-push ks e 0 h) refl
+  one-pushed o d e p h = rw (p, stacked-onto ks e (suc e) 0 refl h) refl
 
   two-pushed : (o : Binary) (d e f v : ℕ) → d ≡ suc e → e ≡ suc f → f < length ks → v ≡ joined-kind o (getD ks f 0) (getD ks e 0)
       → push-kind (Two o) (stacked ks d) ≡ some (stacked (set ks f v) e)
   unfolding push-kind stacked
-  two-pushed o d e f v p q h j = rw (p, q, stacked-push ks f v h, j, q) refl
+  two-pushed o d e f v p q h j = rw (p, q, stacked-onto ks f (suc f) v refl h, j, q) refl
 
   none-for-two : (o : Binary) (d : ℕ) → d < 2 → push-kind (Two o) (stacked ks d) ≡ none
   unfolding push-kind stacked
@@ -170,7 +162,7 @@ module _ {n : ℕ} {plan ks : List ℕ} {d i : ℕ} (s : Scanned n plan ks d i) 
         short = s .short;
         low = omega arith;
         room = simp length-set (s .room);
-        same = goes-on _ (rw (e, add-one d, stacked-push ks d v (omega arith), q) refl);
+        same = goes-on _ (rw (e, stacked-push ks d v (omega arith), q) refl);
       }
 
   pub took-one : {o : Unary} → 1 ≤ d → word-of n (getD plan i 0) ≡ One o → Scanned n plan (set ks (d - 1) 0) d (i + 1)

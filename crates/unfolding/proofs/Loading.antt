@@ -13,12 +13,12 @@ use Rattle.plans.specs.Word.{unary-word}
 use Rattle.plans.specs.Term.{Term, words, Set-number}
 use Rattle.plans.specs.Stack.{spell, stacked}
 use Rattle.plans.proofs.Words.{binary-range, unary-low}
+use Rattle.plans.proofs.Stack.{stacked-length, stacked-push}
 use Rattle.buffer.specs.Buffer.{whole}
 use Rattle.buffer.specs.Moves.{Gap}
 use Rattle.buffer.proofs.Whole.{read-long, whole-length}
 use Rattle.graph.specs.Graph.{Graph, Root, root-one, root-two, Held, ToRead, ToWrite, write-none, write-more, as-word, onto, Nodes, Writable, WroteBack}
 use Rattle.graph.proofs.Reading.{written-holds, to-read-words, to-read-append, to-read-long, held-long, held-to-write, onto-to-write}
-use Rattle.graph.proofs.Stacks.{stacked-length, stacked-push}
 use Rattle.graph.proofs.Terms.{root-same}
 use Rattle.graphsteps.specs.declared.Cut.{Cut}
 use Rattle.unfolding.specs.Walking.{Loaded, PlanOf, WroteOut, RedexOf, RedexIn}

@@ -7,7 +7,7 @@ use mathlib.Core.List.{List}
 use lib.ListN.{length, getD, set, drop, length-set, drop-of-length-le}
 use lib.Seq.{drop-cons}
 use Rattle.plans.specs.Stack.{stacked}
-use Rattle.graph.proofs.Stacks.{stacked-push}
+use Rattle.plans.proofs.Stack.{stacked-push}
 use Rattle.graph.specs.Graph.{onto}
 use Rattle.graph.proofs.push_rest.Statement.{statement}
 use Rattle.graph.proofs.push_rest.Tie as tie

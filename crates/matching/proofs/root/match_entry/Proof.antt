@@ -4,8 +4,9 @@ use borrow.Author.Needs.{needs}
 use Prim.Native.Nat.{ℕ, _+_, _-_, _≤_, _<_}
 use lib.ListN.{length, getD}
 use borrow.Author.Tests.{eq-eqb, ne-eqb, lt-ltb, le-ltb, le-leb, lt-leb}
+use Rattle.plans.proofs.Stack.{stacked-onto}
 use Rattle.matching.specs.Slots.{sign-turn, entry-turn}
-use Rattle.matching.proofs.Agenda.{push-one, push-two}
+use Rattle.matching.proofs.Agenda.{push-two}
 use Rattle.matching.proofs.root.match_entry.Statement.{statement}
 use Rattle.matching.proofs.root.match_entry.Tie as tie
 
@@ -94,7 +95,7 @@ returns-5 : tie.Need-returns-5
 unfolding entry-turn sign-turn
 returns-5 c =
     let k = c .before .before .before .before .before .before .before in
-    rw (lt-ltb _ _ (c .before .before .before .before .before .if1 .taken), le-ltb _ _ (c .before .before .before .before .if2 .left), eq-eqb _ _ (c .before .before .if4 .left), le-ltb _ _ (c .if5 .left), push-one (k .args .agenda .now) (k .args .waiting - 1) (k .args .waiting) _ (omega arith) (omega arith))
+    rw (lt-ltb _ _ (c .before .before .before .before .before .if1 .taken), le-ltb _ _ (c .before .before .before .before .if2 .left), eq-eqb _ _ (c .before .before .if4 .left), le-ltb _ _ (c .if5 .left), stacked-onto (k .args .agenda .now) (k .args .waiting - 1) (k .args .waiting) _ (omega arith) (omega arith))
 
 cast-slots : tie.Need-cast-slots
 cast-slots c = search needs
@@ -177,7 +178,7 @@ returns-11 : tie.Need-returns-11
 unfolding entry-turn sign-turn
 returns-11 c =
     let k = c .before .before .before .before .before .before .before .before in
-    rw (le-ltb _ _ (c .before .before .before .before .before .before .if1 .left), le-ltb _ _ (c .before .before .before .before .before .if6 .left), le-ltb _ _ (c .before .before .before .before .if7 .left), le-ltb _ _ (c .before .before .before .if9 .left), le-ltb _ _ (c .before .if10 .left), push-one (k .args .agenda .now) (k .args .waiting - 1) (k .args .waiting) _ (omega arith) (omega arith))
+    rw (le-ltb _ _ (c .before .before .before .before .before .before .if1 .left), le-ltb _ _ (c .before .before .before .before .before .if6 .left), le-ltb _ _ (c .before .before .before .before .if7 .left), le-ltb _ _ (c .before .before .before .if9 .left), le-ltb _ _ (c .before .if10 .left), stacked-onto (k .args .agenda .now) (k .args .waiting - 1) (k .args .waiting) _ (omega arith) (omega arith))
 
 pub match-entry-spec : {M : Type 1} → statement M
 match-entry-spec =
