@@ -1,7 +1,7 @@
 -- A replay that ends in acceptance is a rewriting from the first plan to the claimed one, so their trees are alike.
 use Prim.Native.Nat.{ℕ, suc, zero}
 use native.Mathlib.Omega.{arith}
-use mathlib.Core.Path.{_≡_, refl, sym, _∙_, ap, subst}
+use mathlib.Core.Path.{_≡_, refl, subst}
 use mathlib.Core.Bool.{Bool, true, false, cond, _&&_, false≢true, and-eq-true-iff}
 use mathlib.Core.List.{List, [], _∷_}
 use mathlib.Core.Option.{Option, none, some}
@@ -9,12 +9,11 @@ use lib.ListN.{length}
 use lib.Dec.{eqb, ltb}
 use borrow.Author.Tests.{eqb-true, eq-eqb}
 use Rattle.refusals.specs.declared.Refusal.{Refusal}
-use Rattle.refusals.specs.Refusal.{or-else}
+use Rattle.refusals.proofs.Judging.{none-of-both}
 use Rattle.tables.specs.Tables.{Tables, actions}
 use Rattle.tables.specs.Judging.{table-refusal}
 use Rattle.tables.proofs.Lawful.{accepted-iff-lawful}
 use Rattle.plans.specs.Judging.{plan-refusal, words-refusal}
-use Rattle.plans.proofs.Options.{never}
 use Rattle.trees.specs.Meaning.{AlikePlans}
 use Rattle.laws.specs.Laws.{same-bytes}
 use Rattle.laws.specs.Step.{step, Rewrites, no-step, step-then}
@@ -61,11 +60,6 @@ module _ (t : Tables) (c : ℕ) (claimed : List ℕ) where
           pick true e = absurd (omega arith)
           pick false e = step-then (m .law) (m .place) q (f next e)
 
--- the first refusal of several is none only where each is
-pub none-first : (r s : Option Refusal) → or-else r s ≡ none → (r ≡ none) × (s ≡ none)
-none-first none s e = (refl, e)
-none-first (some r) s e = never (sym e)
-
 accepted-number : (r : Replay) (k z : ℕ) → checked r ≡ Accepted k z → r .number ≡ 0
 accepted-number r k z e = go (eqb (r .number) 0) refl e
   where
@@ -83,6 +77,6 @@ module _ (t : Tables) (start claimed rewriting a b : List ℕ) where
   unfolding check-outcome check-refusal replay-of plan-refusal
   accepted-alike k z e =
       let i = accepted-case (check-refusal t start claimed rewriting (capacity a b)) (replay-of t start claimed rewriting (capacity a b)) a b k z e in
-      let j = none-first _ _ (i .0) in
-      let p = none-first (table-refusal t) _ (j .0) in
+      let j = none-of-both (plan-refusal t start) _ .0 (i .0) in
+      let p = none-of-both (table-refusal t) _ .0 (j .0) in
       chain-alike t (accepted-iff-lawful t .0 (p .0)) (p .1) (accepted-chain t (capacity a b) claimed (moves-of rewriting) 0 start [] (i .1)) .0

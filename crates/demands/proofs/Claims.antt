@@ -12,6 +12,7 @@ use lib.Seq.{take-at}
 use lib.Dec.{eqb, ltb}
 use borrow.Author.Tests.{ltb-false, le-ltb, eqb-true, eqb-false, eq-eqb}
 use Rattle.refusals.specs.declared.Refusal.{Refusal}
+use Rattle.refusals.proofs.Judging.{none-of-both}
 use Rattle.areas.specs.Area.{padded}
 use Rattle.tables.specs.Tables.{Tables, actions}
 use Rattle.tables.specs.Judging.{table-refusal}
@@ -37,7 +38,7 @@ use Rattle.unfolding.specs.Unfolding as unfolding-of
 use Rattle.checking.specs.Checking.{replay, replay-of, check-refusal, check-outcome, unknown-law}
 use Rattle.demands.specs.Claims.{Reports, finished, stopped, reached-part, own-rewriting, UnfoldClaims, CheckClaims}
 use Rattle.steps.proofs.Choosing.{none-fits, fits-none}
-use Rattle.checking.proofs.Replaying.{none-first, accepted-alike}
+use Rattle.checking.proofs.Replaying.{accepted-alike}
 use Rattle.demands.proofs.Running.{Followed, followed}
 
 pub take-padded : (w : List ℕ) (n : ℕ) → take (length w) (padded w n) ≡ w
@@ -60,19 +61,19 @@ module _ (t : Tables) (plan : List ℕ) (m l : ℕ) (a b : List ℕ) (ok : unfol
 
   plan-ok : plan-refusal t plan ≡ none
   unfolding unfold-refusal
-  plan-ok = none-first (plan-refusal t plan) _ ok .0
+  plan-ok = none-of-both (plan-refusal t plan) _ .0 ok .0
 
   is-lawful : Lawful t
   unfolding plan-refusal
-  is-lawful = accepted-iff-lawful t .0 (none-first (table-refusal t) _ plan-ok .0)
+  is-lawful = accepted-iff-lawful t .0 (none-of-both (table-refusal t) _ .0 plan-ok .0)
 
   words-ok : words-refusal (actions t) plan ≡ none
   unfolding plan-refusal
-  words-ok = none-first (table-refusal t) _ plan-ok .1
+  words-ok = none-of-both (table-refusal t) _ .0 plan-ok .1
 
   plan-fits : length plan ≤ c
   unfolding unfold-refusal c
-  plan-fits = go (ltb (capacity a b) (length plan)) _ refl (none-first (plan-refusal t plan) _ ok .1)
+  plan-fits = go (ltb (capacity a b) (length plan)) _ refl (none-of-both (plan-refusal t plan) _ .0 ok .1)
     where
       go : (x : Bool) (f : Refusal) → ltb (capacity a b) (length plan) ≡ x → cond x (some f) none ≡ none → length plan ≤ capacity a b
       go true f q e = never (sym e)

@@ -11,8 +11,8 @@ use lib.Dec.{eqb, ltb}
 use borrow.Author.Tests.{ne-eqb, le-ltb, ltb-false}
 use Rattle.refusals.specs.declared.Place.{Place}
 use Rattle.refusals.specs.declared.Place.the-variants.{Nowhere, Byte}
-use Rattle.refusals.specs.declared.Refusal.{Refusal}
-use Rattle.refusals.specs.Refusal.{refuse, or-else}
+use Rattle.refusals.specs.Refusal.{refuse}
+use Rattle.refusals.proofs.Judging.{none-of-both}
 use Rattle.tables.specs.Tables.{Tables, actions}
 use Rattle.tables.specs.Judging.{table-refusal}
 use Rattle.tables.proofs.Lawful.{accepted-iff-lawful}
@@ -126,16 +126,9 @@ accepted-iff-term n few ws = (to, from)
         let low : 1 ≤ length ws = rw (← r .1) (words-some u) in term-accepted n few ws u t low (r .3)
 
 -- "judges the tables (1 to 8), then the plan (11 to 14)": both are accepted where a plan is
-either-none : (a b : Option Refusal) → (or-else a b ≡ none) ↔ ((a ≡ none) × (b ≡ none))
-either-none none b = (λ e. (refl, e), λ e. e .1)
-either-none (some r) b = (λ e. absurd (refused-some r e), λ e. absurd (refused-some r (e .0)))
-  where
-    refused-some : (r : Refusal) → some r ≡ none → ⊥
-    refused-some r e = let q : _≡_ {A = ℕ} 0 1 = cc in omega arith
-
 pub plan-accepted-iff : (t : Tables) (ws : List ℕ) → (plan-refusal t ws ≡ none) ↔ ((table-refusal t ≡ none) × (words-refusal (actions t) ws ≡ none))
 unfolding plan-refusal
-plan-accepted-iff t ws = either-none (table-refusal t) (words-refusal (actions t) ws)
+plan-accepted-iff t ws = none-of-both (table-refusal t) (words-refusal (actions t) ws)
 
 pub few-actions : (t : Tables) → table-refusal t ≡ none → actions t ≤ 31
 few-actions t e = accepted-iff-lawful t .0 e .well-formed .few-actions

@@ -12,6 +12,7 @@ use borrow.Author.Tests.{eqb-true, eq-eqb, leb-true, le-leb}
 use Rattle.refusals.specs.declared.Place.the-variants.{Nowhere, Triple}
 use Rattle.refusals.specs.declared.Refusal.{Refusal}
 use Rattle.refusals.specs.Refusal.{refuse, or-else}
+use Rattle.refusals.proofs.Judging.{none-of-both}
 use Rattle.tables.specs.Tables.{Tables, actions}
 use Rattle.tables.specs.Search.{first-of, first-from, unless-met}
 use Rattle.tables.specs.Judging.{byte-right, null-right, swap-right, group-right, least-right, order-right, first-triple, content-refusal, table-refusal}
@@ -77,15 +78,11 @@ module _ (k : ℕ) (right : ℕ → ℕ → ℕ → Bool) (n : ℕ) where
 
 -- Refusals in order
 
-or-none : (o s : Option Refusal) → (or-else o s ≡ none) ↔ ((o ≡ none) × (s ≡ none))
-or-none none s = (λ h. (refl, h), λ h. h .1)
-or-none (some x) s = (λ h. let q : _≡_ {A = ℕ} 0 1 = cc in absurd (omega arith), λ h. h .0)
-
 -- one part more: what is accepted by a step and by the steps after it
 and-then : (o s : Option Refusal) {P Q : Type 0} → (o ≡ none) ↔ P → (s ≡ none) ↔ Q → (or-else o s ≡ none) ↔ (P × Q)
 and-then o s p q = (
-  λ h. (p .0 (or-none o s .0 h .0), q .0 (or-none o s .0 h .1)),
-  λ h. or-none o s .1 (p .1 (h .0), q .1 (h .1)),
+  λ h. (p .0 (none-of-both o s .0 h .0), q .0 (none-of-both o s .0 h .1)),
+  λ h. none-of-both o s .1 (p .1 (h .0), q .1 (h .1)),
 )
 
 counted : (n : ℕ) → (cond (leb 1 n && leb n 31) none (refuse 2 Nowhere) ≡ none) ↔ ((1 ≤ n) × (n ≤ 31))
