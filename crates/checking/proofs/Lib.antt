@@ -1,5 +1,4 @@
 pub mod Replaying
-mod Same
 mod Cutting
 mod Judging
 mod Turning

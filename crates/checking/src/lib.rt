@@ -161,32 +161,15 @@ fn replay_on(
     }
 }
 
-// Whether two plans are equal in their words.
-fn same_words(v: &[u8], w: &[u8]) -> bool
-    ensures { λ r. ⌜ r ≡ same-bytes (now (v .entry)) (now (w .entry)) ⌝ }
-{
-    if v.len() != w.len() {
-        return false;
-    }
-    let mut i: usize = 0;
-    while i < v.len() {
-        if v[i] != w[i] {
-            return false;
-        }
-        i += 1;
-    }
-    true
-}
-
 // Whether the plan reached, which stands in one of two areas by the parity, equals the claimed one in its words.
 fn reached(a: &[u8], b: &[u8], even: bool, size: usize, claimed: &[u8]) -> bool
     requires { ⌜ (size ≤ length (now a)) × (size ≤ length (now b)) ⌝ }
     ensures { λ r. ⌜ r ≡ same-bytes (take size (cond even (now (a .entry)) (now (b .entry)))) (now (claimed .entry)) ⌝ }
 {
     if even {
-        same_words(&a[..size], claimed)
+        matching::same_words(&a[..size], claimed)
     } else {
-        same_words(&b[..size], claimed)
+        matching::same_words(&b[..size], claimed)
     }
 }
 

@@ -1,4 +1,5 @@
 // The conditions of the laws, on the words that a left side's letters reach over.
+use crate::same_words;
 ghost use mathlib.Core.Path.{_≡_};
 ghost use Prim.Native.Nat.{_≤_, _<_};
 ghost use lib.ListN.{length};
@@ -67,23 +68,6 @@ pub fn a_below_b(tables: &[u8], plan: &[u8], from: &[u16]) -> bool
     let a = word_at(plan, from, 3);
     let b = word_at(plan, from, 4);
     tables::is_below(tables, a, b)
-}
-
-// Whether two lists of words are equal.
-pub fn same_words(a: &[u8], b: &[u8]) -> bool
-    ensures { λ r. ⌜ r ≡ same-bytes (now (a .entry)) (now (b .entry)) ⌝ }
-{
-    if a.len() != b.len() {
-        return false;
-    }
-    let mut i: usize = 0;
-    while i < a.len() {
-        if a[i] != b[i] {
-            return false;
-        }
-        i += 1;
-    }
-    true
 }
 
 // Whether x and y are equal in their words.

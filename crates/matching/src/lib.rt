@@ -10,6 +10,7 @@ ghost use mathlib.Core.Path.{_≡_};
 ghost use Prim.Native.Nat.{_+_, _≤_, _<_};
 ghost use lib.ListN.{length};
 ghost use Rattle.areas.specs.Area.{overwrite};
+ghost use Rattle.laws.specs.Laws.{same-bytes};
 ghost use Rattle.matching.specs.Start.{Ready};
 ghost use Rattle.matching.specs.Right.{spelled-law, law-size, Reaches};
 ghost use Rattle.matching.specs.Choice.{law-term, Tried, first-term, Chosen, laws-of};
@@ -17,6 +18,23 @@ ghost use Rattle.tables.specs.Tables.{actions};
 ghost use Rattle.tables.specs.Lawful.{Lawful};
 ghost use Rattle.graph.specs.Graph.{graph, Nodes};
 ghost use Rattle.matching.specs.Slots.{RootTerm, ChosenRoot, Slots, SideSize, SizesReach, ActionSlots, side-entries};
+
+// Whether two lists of words are equal.
+pub fn same_words(v: &[u8], w: &[u8]) -> bool
+    ensures { λ r. ⌜ r ≡ same-bytes (now (v .entry)) (now (w .entry)) ⌝ }
+{
+    if v.len() != w.len() {
+        return false;
+    }
+    let mut i: usize = 0;
+    while i < v.len() {
+        if v[i] != w[i] {
+            return false;
+        }
+        i += 1;
+    }
+    true
+}
 
 // Tries a law at the last word. If it fits, its letters reach over the plan's words between from and to.
 pub fn law_fits(

@@ -6,9 +6,9 @@ use Prim.Native.Nat.{_≤_, _-_}
 use mathlib.Core.Path.{_≡_, refl, sym, _∙_}
 use lib.ListN.{length, drop}
 use Rattle.laws.specs.Laws.{same-bytes}
-use Rattle.checking.proofs.Same.{same-more, same-differ, same-end, same-long}
-use Rattle.checking.proofs.same_words.Statement.{statement}
-use Rattle.checking.proofs.same_words.Tie as tie
+use Rattle.matching.proofs.Same.{same-more, same-differ, same-end, same-long}
+use Rattle.matching.proofs.same_words.Statement.{statement}
+use Rattle.matching.proofs.same_words.Tie as tie
 
 abbrev Inv-loop : tie.InvT-loop
 Inv-loop a b i₀ i = (i ≤ length a) × (same-bytes (drop i a) (drop i b) ≡ same-bytes a b)
