@@ -52,13 +52,14 @@ pub fn put_in(
     let rest = state.rest;
     let start = starts[read - 1] as usize;
     let size = matching::right_len(law, from, to);
+    let gone = read - start;
     if limit < start + size + (MOST_WORDS - rest) {
         return Made::TooLong;
     }
     areas::copy_in(&left[start..read], old, 0);
     let front = rest - size;
     matching::put_side(law, tables, &left[..read], from, to, right, front);
-    Made::Step(state.after_step(start, read - start, size, front))
+    Made::Step(state.after_step(start, gone, size, front))
 }
 
 // Moves on until one of laws 5 to 32 fits at the last word read. Nothing fits at the words read before.

@@ -41,6 +41,9 @@ cast-start c =
 right-len-requires : tie.Need-right-len-requires
 right-len-requires c κs = search needs
 
+sub-gone : tie.Need-sub-gone
+sub-gone c = omega (arith, started (entry c))
+
 add-if1 : tie.Need-add-if1
 add-if1 c =
     let s = entry c in
@@ -89,9 +92,6 @@ put-side-requires c κs =
     let e = side-size (a .tables .now) (a .law) (a .limit) (a .left .now) (a .starts .now) (a .right .now) (a .old .now) (a .from .now) (a .to .now) (a .state) (s .pre .1 .0) (s .pre .1 .1) (s .pre .1 .2) (k .right-len .result) (k .right-len .ensures) in
     ((s .pre .0 .0, s .pre .0 .1, s .pre .1 .2), omega (arith, e, s .pre .0 .2, c .before .before .before .before .before .before .before .if1 .left, s .pre .1 .1 .held .rest-in, s .pre .1 .1 .held .right-long))
 
-sub-after-step : tie.Need-sub-after-step
-sub-after-step c = omega (arith, started (c .before .before .before .before .before .before .before .before .before .before .before .before .before .before .before .before .before .before .before .before))
-
 after-step-requires : tie.Need-after-step-requires
 after-step-requires c κs = search needs
 
@@ -117,6 +117,7 @@ put-in-spec =
     shared-slice-read-start
     cast-start
     right-len-requires
+    sub-gone
     add-if1
     sub-if1
     add-if1-2
@@ -128,7 +129,6 @@ put-in-spec =
     sub-front
     slice-aggregate-put-side
     put-side-requires
-    sub-after-step
     after-step-requires
     same-length
     same-length-2
