@@ -1,4 +1,5 @@
-//! What is measured: the proved library, where it is linked, and the plain version.
+//! What is measured: the proved library, where it is linked, and the plain version; beside them
+//! the reference, which is compared but too slow to measure.
 
 use crate::plain;
 use reference::{checking, unfolding};
@@ -21,19 +22,26 @@ pub struct Contender {
 
 /// The unverified version in plain Rust.
 pub const PLAIN: Contender = Contender {
-    unfold: plain_unfold,
-    check: plain_check,
+    unfold: |tables, plan, allowance, list, a, b| {
+        unfolded(plain::unfold(tables, plan, allowance, list, a, b))
+    },
+    check: |tables, start, claimed, rewriting, a, b| {
+        checked(plain::check(tables, start, claimed, rewriting, a, b))
+    },
 };
 
-fn plain_unfold(
-    tables: &[u8],
-    plan: &[u8],
-    allowance: u32,
-    list: &mut [u8],
-    a: &mut [u8],
-    b: &mut [u8],
-) -> Ended {
-    match plain::unfold(tables, plan, allowance, list, a, b) {
+/// The second implementation, written for comparison.
+pub const REFERENCE: Contender = Contender {
+    unfold: |tables, plan, allowance, list, a, b| {
+        unfolded(unfolding::unfold(tables, plan, allowance, list, a, b))
+    },
+    check: |tables, start, claimed, rewriting, a, b| {
+        checked(checking::check(tables, start, claimed, rewriting, a, b))
+    },
+};
+
+fn unfolded(answer: unfolding::Answer) -> Ended {
+    match answer {
         unfolding::Answer::Refused(refusal) => (refusal.number, 0, 0),
         unfolding::Answer::Ended {
             number,
@@ -43,15 +51,8 @@ fn plain_unfold(
     }
 }
 
-fn plain_check(
-    tables: &[u8],
-    start: &[u8],
-    claimed: &[u8],
-    rewriting: &[u8],
-    a: &mut [u8],
-    b: &mut [u8],
-) -> Ended {
-    match plain::check(tables, start, claimed, rewriting, a, b) {
+fn checked(answer: checking::Answer) -> Ended {
+    match answer {
         checking::Answer::Refused(refusal) => (refusal.number, 0, 0),
         checking::Answer::Accepted { steps, size } => (0, steps, size),
         checking::Answer::Back {
@@ -69,32 +70,12 @@ pub const PROVED: Option<Contender> = None;
 /// The proved library; none where it is left out.
 #[cfg(feature = "archive")]
 pub const PROVED: Option<Contender> = Some(Contender {
-    unfold: proved_unfold,
-    check: proved_check,
+    unfold: |tables, plan, allowance, list, a, b| {
+        let ended = aberulwy::raw::unfold(tables, plan, allowance, list, a, b);
+        (ended.number, ended.steps, ended.size)
+    },
+    check: |tables, start, claimed, rewriting, a, b| {
+        let ended = aberulwy::raw::check(tables, start, claimed, rewriting, a, b);
+        (ended.number, ended.steps, ended.size)
+    },
 });
-
-#[cfg(feature = "archive")]
-fn proved_unfold(
-    tables: &[u8],
-    plan: &[u8],
-    allowance: u32,
-    list: &mut [u8],
-    a: &mut [u8],
-    b: &mut [u8],
-) -> Ended {
-    let ended = aberulwy::raw::unfold(tables, plan, allowance, list, a, b);
-    (ended.number, ended.steps, ended.size)
-}
-
-#[cfg(feature = "archive")]
-fn proved_check(
-    tables: &[u8],
-    start: &[u8],
-    claimed: &[u8],
-    rewriting: &[u8],
-    a: &mut [u8],
-    b: &mut [u8],
-) -> Ended {
-    let ended = aberulwy::raw::check(tables, start, claimed, rewriting, a, b);
-    (ended.number, ended.steps, ended.size)
-}

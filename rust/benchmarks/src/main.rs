@@ -1,30 +1,43 @@
 //! Prints, as Markdown tables, what a step takes: in the proved library, in an unverified plain
-//! Rust version of the same algorithm, and in Maude.
+//! Rust version of the same algorithm, and in Maude. Ends at the first call on which the proved
+//! library and the plain version differ.
 
-use benchmarks::contenders::{Contender, PLAIN, PROVED};
+use benchmarks::contenders::{PLAIN, PROVED};
 use benchmarks::maude;
 use benchmarks::measuring::{cell, least_times, mean};
-use benchmarks::workloads::{sizes, Merge, Places, Replay, Unfolding, MERGES};
-use reference::tables::trial_tables;
+use benchmarks::workloads::{
+    longest_sum, single_action, sizes, stopped_merges, sum_tables, Call, Places, Replay, Unfolding,
+    MERGES, STOPPED_CHAINS,
+};
+use reference::plans::LONGEST_PLAN;
+use reference::tables::{actions, trial_tables};
 
 /// The steps of a replay with near places, and with far ones.
 const REPLAYED: (usize, usize) = (4000, 400);
+/// The actions of the first chain where the areas grow, and where they are the longest.
+const SHORT_CHAIN: usize = 2;
+const LONG_CHAINS: [usize; 3] = [3, 4, 5];
 
 fn main() {
-    let tables = trial_tables();
     println!(
-        "Nanoseconds for a step; the whole call counts (judging, steps, storing). Each number is"
+        "Nanoseconds for a step; the whole call counts (judging, steps, storing). Each number"
     );
-    println!("the least of several runs, in which the versions took turns.");
-    if PROVED.is_none() {
-        println!("\nThe proved library is left out: build with `--features archive` to link it.");
+    println!("is the least of several turns, which the proved library and the plain version took");
+    println!("one after the other. Maude: its own report, for one of many reductions of the plan;");
+    println!("rewrites are the equations that it used for one.");
+    match PROVED {
+        Some(_) => println!("\nIn each row the proved library and the plain version were first called once each, and\nagreed in every number answered and in every lent byte."),
+        None => println!("\nThe proved library is left out: build with `--features archive` to link it."),
     }
     let with_maude = maude::installed();
     if !with_maude {
         println!("\nMaude is left out: there is no command `maude`.");
     }
-    unfoldings(&tables, with_maude);
-    replays(&tables);
+    without_steps();
+    growing_areas(with_maude);
+    longer_chains(with_maude);
+    plan_length(with_maude);
+    replays();
 }
 
 /// What a step takes in the proved library and in the plain version.
@@ -34,16 +47,23 @@ struct Times {
 }
 
 impl Times {
-    /// Measures both; `run` makes the call once and answers its steps.
-    fn measure(mut run: impl FnMut(Contender) -> usize) -> Times {
-        let steps = run(PLAIN) as f64;
+    /// Compares both once, then measures both; a call that makes no step counts as one.
+    fn measure(name: &str, call: &mut impl Call) -> Times {
+        let outcome = call.outcome(PLAIN);
+        let ((number, steps, _), _) = outcome;
+        let parts = steps.max(1) as f64;
+        assert_eq!(number, 0, "{name}: the plain version comes to no end");
+        if let Some(proved) = PROVED {
+            let same = call.outcome(proved) == outcome;
+            assert!(same, "{name}: proved library and plain version differ");
+        }
         let contenders = [Some(PLAIN), PROVED];
         let [plain, proved] = least_times(|index| {
-            contenders[index].map(&mut run);
+            contenders[index].map(|contender| call.run(contender));
         });
         Times {
-            proved: PROVED.map(|_| proved / steps),
-            plain: plain / steps,
+            proved: PROVED.map(|_| proved / parts),
+            plain: plain / parts,
         }
     }
 
@@ -57,62 +77,119 @@ impl Times {
     }
 }
 
-fn unfoldings(tables: &[u8], with_maude: bool) {
-    println!("\n### Unfolding: the merge of two chains\n");
-    println!(
-        "The first chain has two actions; the second is the longest whose unfolding finishes in"
-    );
-    println!("areas of that many words. Maude's time is its own report, over the same steps.\n");
-    println!(
-        "| plan | areas | words | steps | proved | plain | proved/plain | Maude | Maude/proved |"
-    );
-    println!("|---|--:|--:|--:|--:|--:|--:|--:|--:|");
-    let (mut to_plain, mut to_maude) = (Vec::new(), Vec::new());
-    for merge in MERGES {
-        for area in sizes() {
-            let (plain, maude) = unfolding_row(tables, &merge, area, with_maude);
-            to_plain.extend(plain);
-            to_maude.extend(maude);
+/// A table of unfoldings, with the ratios of its rows.
+struct Unfoldings {
+    with_maude: bool,
+    to_plain: Vec<f64>,
+    to_maude: Vec<f64>,
+}
+
+impl Unfoldings {
+    fn begin(with_maude: bool, names: &str) -> Unfoldings {
+        println!("\n| {names} | words | steps | rewrites | proved | plain | proved/plain | Maude | Maude/proved |");
+        println!("|---|--:|--:|--:|--:|--:|--:|--:|--:|--:|");
+        Unfoldings {
+            with_maude,
+            to_plain: Vec::new(),
+            to_maude: Vec::new(),
         }
     }
-    let (plain, maude) = (cell(mean(&to_plain)), cell(mean(&to_maude)));
-    println!("| geometric mean | | | | | | {plain} | | {maude} |");
+
+    fn row(&mut self, names: &str, mut unfolding: Unfolding) {
+        let times = Times::measure(names, &mut unfolding);
+        let (words, steps) = (unfolding.plan.len(), unfolding.steps);
+        let reduced = match self.with_maude {
+            true => {
+                let reduced = maude::reduce(&unfolding).expect("maude runs");
+                Some(reduced.expect("maude reaches the same plan"))
+            }
+            false => None,
+        };
+        let rewrites = reduced.map_or("–".to_string(), |reduced| reduced.rewrites.to_string());
+        let maude = reduced.and_then(|reduced| Some(reduced.time? / steps as f64));
+        let ratio = times
+            .proved
+            .zip(maude)
+            .map(|(proved, maude)| maude / proved);
+        println!(
+            "| {names} | {words} | {steps} | {rewrites} | {} | {} | {} |",
+            times.cells(),
+            cell(maude),
+            cell(ratio),
+        );
+        self.to_plain.extend(times.ratio());
+        self.to_maude.extend(ratio);
+    }
+
+    fn end(self) {
+        let (plain, maude) = (cell(mean(&self.to_plain)), cell(mean(&self.to_maude)));
+        println!("| geometric mean | | | | | | | {plain} | | {maude} |");
+    }
 }
 
-/// Prints a row, and answers the ratios to the plain version and to Maude.
-fn unfolding_row(
-    tables: &[u8],
-    merge: &Merge,
-    area: usize,
-    with_maude: bool,
-) -> (Option<f64>, Option<f64>) {
-    let mut unfolding = Unfolding::longest(tables, merge, area);
-    let (_, steps, _) = unfolding.run(tables, PLAIN);
-    let times = Times::measure(|contender| {
-        let (number, made, _) = unfolding.run(tables, contender);
-        assert_eq!((number, made), (0, steps), "the unfolding finishes");
-        made
-    });
-    let reduction = match with_maude {
-        true => maude::reduce(tables, &unfolding.plan).expect("maude runs"),
-        false => None,
-    };
-    let by_maude = reduction.map(|time| time / steps as f64);
-    let ratio = times
-        .proved
-        .and_then(|proved| by_maude.map(|maude| maude / proved));
+fn without_steps() {
+    println!("\n### Unfolding: a call without a step\n");
     println!(
-        "| {} | {area} | {} | {steps} | {} | {} | {} |",
-        merge.name,
-        unfolding.plan.len(),
-        times.cells(),
-        cell(by_maude),
-        cell(ratio),
+        "Nanoseconds for the call, with a plan of one action and areas of {LONGEST_PLAN} words:"
     );
-    (times.ratio(), ratio)
+    println!("a part that every call has, however many its steps.\n");
+    println!("| tables | proved | plain | proved/plain |");
+    println!("|---|--:|--:|--:|");
+    for tables in [trial_tables(), sum_tables()] {
+        let name = format!("{} actions", actions(&tables));
+        let times = Times::measure(&name, &mut single_action(tables));
+        println!("| {name} | {} |", times.cells());
+    }
 }
 
-fn replays(tables: &[u8]) {
+fn growing_areas(with_maude: bool) {
+    println!("\n### Unfolding: the merge of two chains\n");
+    println!("The first chain has two actions; the second is the longest whose unfolding finishes");
+    println!("in areas of that many words.");
+    let mut table = Unfoldings::begin(with_maude, "plan | areas");
+    for merge in MERGES {
+        for area in sizes() {
+            let (_, unfolding) = merge.longest(SHORT_CHAIN, area);
+            table.row(&format!("{} | {area}", merge.name), unfolding);
+        }
+    }
+    table.end();
+}
+
+fn longer_chains(with_maude: bool) {
+    println!("\n### Unfolding: longer chains\n");
+    println!(
+        "Areas of {LONGEST_PLAN} words; the second chain is again the longest. Σ δ·(x‖y): merges"
+    );
+    println!("of different actions, each after a dead stop; there one burst follows another.");
+    let mut table = Unfoldings::begin(with_maude, "plan | chains");
+    for merge in MERGES {
+        for first in LONG_CHAINS {
+            let (second, unfolding) = merge.longest(first, LONGEST_PLAN);
+            table.row(&format!("{} | {first}, {second}", merge.name), unfolding);
+        }
+    }
+    for chains in STOPPED_CHAINS {
+        let each = chains.iter().map(|(x, y)| format!("{x}, {y}"));
+        let names = each.collect::<Vec<_>>().join("; ");
+        table.row(&format!("Σ δ·(x‖y) | {names}"), stopped_merges(chains));
+    }
+    table.end();
+}
+
+fn plan_length(with_maude: bool) {
+    println!("\n### Unfolding: plan length alone\n");
+    println!("A sum of small plans ∂((a·c)‖b), all different, as many as can be unfolded in areas");
+    println!("of that many words: the terms rewritten stay small while the plan grows.");
+    let mut table = Unfoldings::begin(with_maude, "areas | small plans");
+    for area in sizes() {
+        let (count, unfolding) = longest_sum(area);
+        table.row(&format!("{area} | {count}"), unfolding);
+    }
+    table.end();
+}
+
+fn replays() {
     println!("\n### Checking: exchanges in a long sum\n");
     println!("Near: all steps at one place at the front. Far: steps in turns at the front and at the end.\n");
     println!("| places | words | steps | proved | plain | proved/plain |");
@@ -124,12 +201,8 @@ fn replays(tables: &[u8]) {
     ] {
         for words in sizes() {
             let mut replay = Replay::new(words, places, most);
-            let (_, steps, size) = replay.run(tables, PLAIN);
-            let times = Times::measure(|contender| {
-                let (number, made, _) = replay.run(tables, contender);
-                assert_eq!((number, made), (0, steps), "the rewriting is accepted");
-                made
-            });
+            let (_, steps, size) = replay.run(PLAIN);
+            let times = Times::measure(name, &mut replay);
             println!("| {name} | {size} | {steps} | {} |", times.cells());
             ratios.extend(times.ratio());
         }

@@ -2,7 +2,12 @@
 //!
 //! Laws 10, 20, 21, 24 and 25 are written out for each action, so that an equation used is a
 //! step made. Maude reduces operands before the sign above them, as the unfolding does.
+//!
+//! Maude tells the time that a reduction took from a clock that may tick only every 4 ms, longer
+//! than most plans take. So one reduction reduces a plan many times, anew each time: an equation
+//! more, used once for each time, puts the plan in.
 
+use crate::workloads::Unfolding;
 use reference::plans::{
     operands, CHOICE, COMMUNICATION_MERGE, ENCAPSULATION, LEFT_MERGE, MERGE, PRODUCT, THETA, UNLESS,
 };
@@ -10,8 +15,12 @@ use reference::tables::{actions, below, blocked, communication};
 use std::process::{Command, Stdio};
 use std::{env, fs, io, process};
 
-/// How often a plan is reduced; the least time counts.
+/// How often all is reduced; the least time counts.
 const TIMES: usize = 5;
+/// About how many equations are used each time.
+const REWRITES: usize = 8_000_000;
+/// The least time that counts, in nanoseconds: many ticks of the clock.
+const LEAST: f64 = 100e6;
 /// The sets for which encapsulation is written out.
 const SETS: u8 = 8;
 
@@ -154,11 +163,38 @@ pub fn installed() -> bool {
     command.output().is_ok_and(|output| output.status.success())
 }
 
-/// Reduces a plan several times, and answers the least time that Maude reports, in nanoseconds;
-/// none where it took no time that Maude can tell.
-pub fn reduce(tables: &[u8], plan: &[u8]) -> io::Result<Option<f64>> {
-    let command = format!("red in ABERULWY : {} .\n", term(plan));
-    let text = module(tables) + &command.repeat(TIMES) + "quit .\n";
+/// What it takes Maude to reduce a plan.
+#[derive(Clone, Copy, Debug, PartialEq)]
+pub struct Reduced {
+    /// How many equations are used.
+    pub rewrites: usize,
+    /// The time in nanoseconds; none where it was too short for Maude's clock.
+    pub time: Option<f64>,
+}
+
+/// The module that reduces a plan as many times as asked.
+fn runs(plan: &[u8]) -> String {
+    [
+        "fmod RUNS is",
+        "  protecting NAT .",
+        "  protecting ABERULWY .",
+        "  sort Runs .",
+        "  op runs : Nat Plan -> Runs .",
+        "  var N : Nat .",
+        "  var X : Plan .",
+        &format!("  eq runs(s N, X) = runs(N, {}) .", term(plan)),
+        "endfm\n",
+    ]
+    .join("\n")
+}
+
+/// Reduces the plan of an unfolding many times; none where Maude reports nothing, or reaches
+/// another plan.
+pub fn reduce(unfolding: &Unfolding) -> io::Result<Option<Reduced>> {
+    let times = (REWRITES / unfolding.steps).max(1);
+    let command = format!("red in RUNS : runs({times}, a0) .\n");
+    let modules = module(&unfolding.tables) + &runs(&unfolding.plan);
+    let text = modules + &command.repeat(TIMES) + "quit .\n";
     let file = env::temp_dir().join(format!("aberulwy-{}.maude", process::id()));
     fs::write(&file, text)?;
     let output = Command::new("maude")
@@ -167,22 +203,34 @@ pub fn reduce(tables: &[u8], plan: &[u8]) -> io::Result<Option<f64>> {
         .stdin(Stdio::null())
         .output();
     fs::remove_file(&file)?;
-    Ok(least(&String::from_utf8_lossy(&output?.stdout)))
+    let output = output?;
+    let report = String::from_utf8_lossy(&output.stdout);
+    let reached = format!("runs(0, {})", term(&unfolding.reached));
+    let same = report.matches(&reached).count() == TIMES;
+    Ok(least(&report, times).filter(|_| same))
 }
 
-/// The least time that is reported.
-fn least(report: &str) -> Option<f64> {
-    report.lines().filter_map(time).reduce(f64::min)
+/// The least that is reported, for one of so many times.
+fn least(report: &str, times: usize) -> Option<Reduced> {
+    let reports: Vec<_> = report.lines().filter_map(reported).collect();
+    let time = |&(_, time): &(usize, Option<f64>)| time.filter(|&time| time >= LEAST);
+    let every: Option<Vec<f64>> = reports.iter().map(time).collect();
+    let least = every.and_then(|every| every.into_iter().reduce(f64::min));
+    let &(rewrites, _) = reports.first()?;
+    Some(Reduced {
+        rewrites: rewrites / times - 1,
+        time: least.map(|time| time / times as f64),
+    })
 }
 
-/// Reads `rewrites: N in Ams cpu (Bms real) (R rewrites/second)`. N over R is finer than A; R
-/// is `~` where there is none.
-fn time(line: &str) -> Option<f64> {
+/// Reads `rewrites: N in Ams cpu (Bms real) (R rewrites/second)`: N, and the nanoseconds. N over
+/// R is finer than A; R is `~` where there is none.
+fn reported(line: &str) -> Option<(usize, Option<f64>)> {
     let rest = line.trim().strip_prefix("rewrites: ")?;
-    let rewrites: f64 = rest.split_whitespace().next()?.parse().ok()?;
+    let rewrites: usize = rest.split_whitespace().next()?.parse().ok()?;
     let rate = rest.strip_suffix(" rewrites/second)")?.rsplit('(').next()?;
-    let rate: f64 = rate.parse().ok()?;
-    (rate > 0.0).then(|| 1e9 * rewrites / rate)
+    let rate = rate.parse().ok().filter(|&rate: &f64| rate > 0.0);
+    Some((rewrites, rate.map(|rate| 1e9 * rewrites as f64 / rate)))
 }
 
 #[cfg(test)]
@@ -193,17 +241,25 @@ mod tests {
 
     #[test]
     fn reports_are_read() {
-        let line = "rewrites: 120 in 4ms cpu (5ms real) (4000000 rewrites/second)";
-        assert_eq!(time(line), Some(30_000.0));
-        let quick = "rewrites: 4 in 0ms cpu (0ms real) (~ rewrites/second)";
-        assert_eq!(time(quick), None);
-        assert_eq!(time("result Plan: a3"), None);
-        let slower = "rewrites: 120 in 8ms cpu (9ms real) (2000000 rewrites/second)";
-        assert_eq!(
-            least(&[slower, quick, line, slower].join("\n")),
-            Some(30_000.0)
-        );
-        assert_eq!(least(""), None);
+        let line = "rewrites: 4200 in 200ms cpu (230ms real) (21000 rewrites/second)";
+        assert_eq!(reported(line), Some((4200, Some(200e6))));
+        let quick = "rewrites: 4200 in 0ms cpu (0ms real) (~ rewrites/second)";
+        assert_eq!(reported(quick), Some((4200, None)));
+        assert_eq!(reported("result Runs: runs(0, a3)"), None);
+        let slower = "rewrites: 4200 in 400ms cpu (430ms real) (10500 rewrites/second)";
+        let all = [slower, line, slower].join("\n");
+        let (rewrites, time) = (41, Some(2e6));
+        assert_eq!(least(&all, 100), Some(Reduced { rewrites, time }));
+        let one_too_quick = [line, quick].join("\n");
+        let time = None;
+        assert_eq!(least(&one_too_quick, 100), Some(Reduced { rewrites, time }));
+        assert_eq!(least("", 100), None);
+    }
+
+    #[test]
+    fn plan_is_put_in_many_times() {
+        let runs = runs(&[1, 2, 65]);
+        assert!(runs.contains("eq runs(s N, X) = runs(N, seq(a1, a2)) ."));
     }
 
     #[test]

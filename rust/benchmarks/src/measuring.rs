@@ -3,9 +3,9 @@
 use std::time::{Duration, Instant};
 
 /// How long all turns together take, about.
-const ENOUGH: Duration = Duration::from_millis(120);
+const ENOUGH: Duration = Duration::from_millis(250);
 /// How many turns there are at least, and at most.
-const TURNS: (usize, usize) = (5, 400);
+const TURNS: (usize, usize) = (20, 400);
 
 /// The least time that each of some runs took, in nanoseconds; `run` is handed a run's index.
 /// The runs take turns, so that what else the machine does falls on all of them.

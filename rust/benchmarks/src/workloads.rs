@@ -1,8 +1,104 @@
-//! Plans and rewritings to measure with, over the tables of document 01's trial trays.
+//! Calls to measure: plans to unfold and rewritings to replay.
 
 use crate::contenders::{Contender, Ended, PLAIN};
-use reference::plans::{CHOICE, LONGEST_PLAN, MERGE, PRODUCT, THETA};
+use reference::plans::{CHOICE, ENCAPSULATION, LONGEST_PLAN, MERGE, PRODUCT, THETA};
+use reference::tables::{
+    entry, trial_tables, COMMUNICATION, DEAD_STOP, PRIORITY, SETS, TABLES_LENGTH,
+};
 use reference::unfolding::record;
+
+/// The lengths of areas measured, doubling up to the longest plan.
+pub fn sizes() -> impl Iterator<Item = usize> {
+    (8..)
+        .map(|power| 1 << power)
+        .take_while(|&size| size <= LONGEST_PLAN)
+}
+
+/// What stands in the lent bytes before a call whose outcome is compared: no zeros, so that
+/// zeros must have been written.
+const UNTOUCHED: u8 = 0xA5;
+
+/// A call with what it is lent.
+pub trait Call {
+    /// Makes the call.
+    fn run(&mut self, contender: Contender) -> Ended;
+
+    /// All lent bytes.
+    fn lent(&mut self) -> Vec<&mut [u8]>;
+
+    /// How the call ends, and every lent byte then.
+    fn outcome(&mut self, contender: Contender) -> (Ended, Vec<Vec<u8>>) {
+        for bytes in self.lent() {
+            bytes.fill(UNTOUCHED);
+        }
+        let ended = self.run(contender);
+        let bytes = self.lent().into_iter().map(|bytes| bytes.to_vec());
+        (ended, bytes.collect())
+    }
+}
+
+/// A plan to unfold, and what is lent.
+pub struct Unfolding {
+    /// The tables.
+    pub tables: Vec<u8>,
+    /// The plan.
+    pub plan: Vec<u8>,
+    /// The plan that its unfolding ends in.
+    pub reached: Vec<u8>,
+    /// The steps until then.
+    pub steps: usize,
+    /// The steps allowed.
+    pub allowance: u32,
+    list: Vec<u8>,
+    a: Vec<u8>,
+    b: Vec<u8>,
+}
+
+/// More steps than any of the unfoldings takes.
+const MOST_STEPS: usize = 1_000_000;
+
+impl Unfolding {
+    /// A plan with areas of this length, if its unfolding finishes there. The list has no room
+    /// for a step more.
+    pub fn within(tables: Vec<u8>, plan: Vec<u8>, area: usize) -> Option<Unfolding> {
+        let mut unfolding = Unfolding {
+            tables,
+            plan,
+            reached: Vec::new(),
+            steps: 0,
+            allowance: u32::MAX,
+            list: vec![0; 3 * MOST_STEPS],
+            a: vec![0; area],
+            b: vec![0; area],
+        };
+        let (number, steps, size) = unfolding.run(PLAIN);
+        let area = match steps % 2 {
+            0 => &unfolding.a,
+            _ => &unfolding.b,
+        };
+        unfolding.reached = area[..size].to_vec();
+        unfolding.steps = steps;
+        unfolding.list.truncate(3 * steps);
+        (number == 0).then_some(unfolding)
+    }
+}
+
+impl Call for Unfolding {
+    fn run(&mut self, contender: Contender) -> Ended {
+        let (list, a, b) = (&mut self.list, &mut self.a, &mut self.b);
+        (contender.unfold)(&self.tables, &self.plan, self.allowance, list, a, b)
+    }
+
+    fn lent(&mut self) -> Vec<&mut [u8]> {
+        vec![&mut self.list, &mut self.a, &mut self.b]
+    }
+}
+
+/// A plan of one action, which takes no step, with areas of the longest plan.
+pub fn single_action(tables: Vec<u8>) -> Unfolding {
+    let unfolding = Unfolding::within(tables, vec![1], LONGEST_PLAN);
+    unfolding.expect("an action is basic")
+}
 
 /// A merge of two chains of actions, with signs around it.
 #[derive(Clone, Copy, Debug)]
@@ -15,7 +111,8 @@ pub struct Merge {
     signs: &'static [u8],
 }
 
-/// The merges measured. Set 0 blocks 1 and 2, which communicate; 1 is below 4.
+/// The merges measured, over the tables of document 01's trial trays. Set 0 blocks 1 and 2,
+/// which communicate; 1 is below 4.
 pub const MERGES: [Merge; 4] = [
     Merge {
         name: "x‖y",
@@ -25,7 +122,7 @@ pub const MERGES: [Merge; 4] = [
     Merge {
         name: "∂(x‖y)",
         actions: (1, 2),
-        signs: &[80],
+        signs: &[ENCAPSULATION],
     },
     Merge {
         name: "θ(x‖y)",
@@ -35,21 +132,9 @@ pub const MERGES: [Merge; 4] = [
     Merge {
         name: "θ(∂(x‖y))",
         actions: (1, 2),
-        signs: &[80, THETA],
+        signs: &[ENCAPSULATION, THETA],
     },
 ];
-
-/// The lengths of areas measured, doubling up to the longest plan.
-pub fn sizes() -> impl Iterator<Item = usize> {
-    (8..)
-        .map(|power| 1 << power)
-        .take_while(|&size| size <= LONGEST_PLAN)
-}
-
-/// The actions of the first chain.
-const FIRST_CHAIN: usize = 2;
-/// More steps than any of the unfoldings takes.
-const MOST_STEPS: usize = 100_000;
 
 /// A chain: an action so many times, one after the other.
 fn chain(action: u8, length: usize) -> Vec<u8> {
@@ -58,58 +143,124 @@ fn chain(action: u8, length: usize) -> Vec<u8> {
     chain
 }
 
+/// The merge of a chain of one action and a chain of another.
+fn merged(actions: (u8, u8), first: usize, second: usize) -> Vec<u8> {
+    let mut plan = chain(actions.0, first);
+    plan.extend(chain(actions.1, second));
+    plan.push(MERGE);
+    plan
+}
+
 impl Merge {
-    /// The plan with so many actions in the second chain.
-    pub fn plan(&self, second: usize) -> Vec<u8> {
-        let mut plan = chain(self.actions.0, FIRST_CHAIN);
-        plan.extend(chain(self.actions.1, second));
-        plan.push(MERGE);
+    /// The plan with so many actions in the two chains.
+    pub fn plan(&self, first: usize, second: usize) -> Vec<u8> {
+        let mut plan = merged(self.actions, first, second);
         plan.extend(self.signs);
         plan
     }
-}
 
-/// A plan to unfold, and what is lent.
-pub struct Unfolding {
-    /// The plan.
-    pub plan: Vec<u8>,
-    list: Vec<u8>,
-    a: Vec<u8>,
-    b: Vec<u8>,
-}
-
-impl Unfolding {
-    /// The merge with the longest second chain whose unfolding finishes in areas of this
+    /// The longest second chain, and the unfolding with it, that finishes in areas of this
     /// length.
-    pub fn longest(tables: &[u8], merge: &Merge, area: usize) -> Unfolding {
-        let within = |second: usize| Unfolding {
-            plan: merge.plan(second),
-            list: vec![0; 3 * MOST_STEPS],
-            a: vec![0; area],
-            b: vec![0; area],
+    pub fn longest(&self, first: usize, area: usize) -> (usize, Unfolding) {
+        let within = |second| {
+            let plan = self.plan(first, second);
+            Some((second, Unfolding::within(trial_tables(), plan, area)?))
         };
-        let mut found = within(1);
-        for second in 2.. {
-            let mut longer = within(second);
-            if longer.run(tables, PLAIN).0 != 0 {
-                break;
-            }
-            found = longer;
-        }
-        let (_, steps, _) = found.run(tables, PLAIN);
-        found.list.truncate(3 * steps);
-        found
+        let found = (1..).map_while(within).last();
+        found.expect("two short chains unfold in every area measured")
     }
+}
 
-    /// Unfolds the plan.
-    pub fn run(&mut self, tables: &[u8], contender: Contender) -> Ended {
-        let (list, a, b) = (&mut self.list, &mut self.a, &mut self.b);
-        (contender.unfold)(tables, &self.plan, u32::MAX, list, a, b)
+/// A sum of terms, each added to those before it.
+fn sum(terms: impl Iterator<Item = Vec<u8>>) -> Vec<u8> {
+    let mut plan = Vec::new();
+    for (index, term) in terms.enumerate() {
+        plan.extend(term);
+        plan.extend((index > 0).then_some(CHOICE));
     }
+    plan
+}
+
+/// For each of some lengths of two chains, and for each pair of different actions, δ·(x‖y); all
+/// in a sum. The merges are unfolded one after another, and the dead stops leave nothing of
+/// them. So there are more steps than a plan of this length could otherwise have.
+pub fn stopped_merges(chains: &[(usize, usize)]) -> Unfolding {
+    let pairs = (1..=4).flat_map(|a| (1..=4).map(move |b| (a, b)));
+    let pairs = pairs.filter(|(a, b)| a != b);
+    let stopped = |(pair, &(first, second))| {
+        let merge = merged(pair, first, second);
+        [vec![DEAD_STOP], merge, vec![PRODUCT]].concat()
+    };
+    let each = pairs.flat_map(|pair| chains.iter().map(move |lengths| (pair, lengths)));
+    let plan = sum(each.map(stopped));
+    let unfolding = Unfolding::within(trial_tables(), plan, LONGEST_PLAN);
+    unfolding.expect("merges of these chains unfold in the longest areas")
+}
+
+/// Chains whose merges unfold in the longest areas, not by far: one pair of them, and three.
+pub const STOPPED_CHAINS: [&[(usize, usize)]; 2] = [&[(4, 7)], &[(4, 7), (3, 10), (5, 5)]];
+
+/// The senders, the receivers, and what they do together, in the tables for sums.
+const SENDERS: u8 = 14;
+const RECEIVERS: u8 = 14;
+const TOGETHER: u8 = 31;
+
+/// Tables with 31 actions. Each sender communicates with each receiver; set 0 blocks both; only
+/// dead stop is below another action.
+pub fn sum_tables() -> Vec<u8> {
+    let mut tables = vec![0; TABLES_LENGTH];
+    tables[0] = TOGETHER;
+    for a in 1..=SENDERS {
+        for b in SENDERS + 1..=SENDERS + RECEIVERS {
+            tables[COMMUNICATION + entry(a, b)] = TOGETHER;
+            tables[COMMUNICATION + entry(b, a)] = TOGETHER;
+        }
+    }
+    for a in 1..=TOGETHER {
+        tables[PRIORITY + entry(0, a)] = 1;
+    }
+    for a in 1..=SENDERS + RECEIVERS {
+        tables[SETS + entry(0, a)] = 1;
+    }
+    tables
+}
+
+/// One of many different small plans ∂((a·c)‖b), with a sender a and a receiver b.
+fn small(index: usize) -> Vec<u8> {
+    let (senders, receivers) = (usize::from(SENDERS), usize::from(RECEIVERS));
+    let a = 1 + index % senders;
+    let b = 1 + senders + index / senders % receivers;
+    let c = 1 + index / (senders * receivers);
+    let (a, b, c) = (a as u8, b as u8, c as u8);
+    vec![a, c, PRODUCT, b, MERGE, ENCAPSULATION]
+}
+
+/// The longest sum of small plans, all of them different, whose unfolding finishes in areas of
+/// this length; and how many they are.
+pub fn longest_sum(area: usize) -> (usize, Unfolding) {
+    let most = area / (small(0).len() + 1);
+    let within = |count| {
+        let plan = sum((0..count).map(small));
+        Some((count, Unfolding::within(sum_tables(), plan, area)?))
+    };
+    let found = (1..=most).rev().find_map(within);
+    found.expect("a small plan unfolds in every area measured")
+}
+
+/// A sum of actions with at most so many words, 7 or more, in which 1 + 2 stands at the front and
+/// at the end.
+pub fn long_sum(words: usize) -> Vec<u8> {
+    let mut plan = vec![1, 2, CHOICE];
+    while plan.len() + 6 <= words {
+        plan.extend([3, CHOICE]);
+    }
+    plan.extend([1, 2, CHOICE, CHOICE]);
+    plan
 }
 
 /// A rewriting to replay, and what is lent.
 pub struct Replay {
+    tables: Vec<u8>,
     start: Vec<u8>,
     rewriting: Vec<u8>,
     a: Vec<u8>,
@@ -129,11 +280,7 @@ impl Replay {
     /// Exchanges of two actions (law 1) in a sum of at most so many words. Each place is used
     /// an even number of times, so the last plan is the first.
     pub fn new(words: usize, places: Places, steps: usize) -> Replay {
-        let mut start = vec![1, 2, CHOICE];
-        while start.len() + 6 <= words {
-            start.extend([3, CHOICE]);
-        }
-        start.extend([1, 2, CHOICE, CHOICE]);
+        let start = long_sum(words);
         let front = record(1, 2);
         let end = record(1, start.len() - 2);
         let rewriting = match places {
@@ -142,45 +289,73 @@ impl Replay {
         };
         let (a, b) = (vec![0; start.len()], vec![0; start.len()]);
         Replay {
+            tables: trial_tables(),
             start,
             rewriting,
             a,
             b,
         }
     }
+}
 
-    /// Replays the rewriting.
-    pub fn run(&mut self, tables: &[u8], contender: Contender) -> Ended {
-        let (start, rewriting) = (&self.start, &self.rewriting);
+impl Call for Replay {
+    fn run(&mut self, contender: Contender) -> Ended {
+        let (tables, start, rewriting) = (&self.tables, &self.start, &self.rewriting);
         (contender.check)(tables, start, start, rewriting, &mut self.a, &mut self.b)
+    }
+
+    fn lent(&mut self) -> Vec<&mut [u8]> {
+        vec![&mut self.a, &mut self.b]
     }
 }
 
 #[cfg(test)]
 mod tests {
     use super::*;
-    use reference::tables::trial_tables;
+    use std::collections::HashSet;
 
     #[test]
     fn merges_finish_and_use_their_areas() {
-        let tables = trial_tables();
         for merge in MERGES {
             for area in sizes().take(4) {
-                let mut unfolding = Unfolding::longest(&tables, &merge, area);
-                let (number, steps, _) = unfolding.run(&tables, PLAIN);
-                assert_eq!(number, 0, "{} {area}", merge.name);
-                assert!(steps > 20);
+                let (second, unfolding) = merge.longest(2, area);
+                assert!(unfolding.steps > 20, "{} {area}", merge.name);
+                let longer = merge.plan(2, second + 1);
+                assert!(Unfolding::within(trial_tables(), longer, area).is_none());
             }
         }
     }
 
     #[test]
+    fn sums_are_of_different_plans_and_as_many_steps() {
+        let mut steps = HashSet::new();
+        for area in sizes() {
+            let (count, unfolding) = longest_sum(area);
+            let plans: HashSet<_> = (0..count).map(small).collect();
+            assert_eq!(plans.len(), count);
+            assert!(unfolding.plan.len() > area - 64);
+            assert_eq!(unfolding.steps % count, 0);
+            steps.insert(unfolding.steps / count);
+        }
+        assert_eq!(steps.len(), 1, "each small plan takes the same steps");
+    }
+
+    #[test]
+    fn outcomes_have_every_lent_byte() {
+        let mut unfolding =
+            Unfolding::within(trial_tables(), vec![1, 2, MERGE, ENCAPSULATION], 32).unwrap();
+        let (ended, bytes) = unfolding.outcome(PLAIN);
+        assert_eq!(ended, (0, unfolding.steps, 1));
+        assert_eq!(bytes.len(), 3);
+        assert!(bytes.concat().iter().all(|&byte| byte != UNTOUCHED));
+    }
+
+    #[test]
     fn replays_are_accepted() {
-        let tables = trial_tables();
         for places in [Places::Near, Places::Far] {
             for words in sizes() {
                 let mut replay = Replay::new(words, places, 10);
-                assert_eq!(replay.run(&tables, PLAIN), (0, 8, words - 1));
+                assert_eq!(replay.run(PLAIN), (0, 8, words - 1));
             }
         }
     }

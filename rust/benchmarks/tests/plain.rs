@@ -1,7 +1,11 @@
-//! The plain version answers as the reference does, with every lent byte.
+//! The plain version answers as the reference does, and as the proved library where it is linked,
+//! with every lent byte.
 
+use benchmarks::contenders::{Contender, PLAIN, REFERENCE};
 use benchmarks::plain;
+use benchmarks::workloads::{stopped_merges, Call, Unfolding, MERGES, STOPPED_CHAINS};
 use differential::{compare, Answer, Implementation, Reference};
+use reference::plans::LONGEST_PLAN;
 
 /// The plain version's unfolding and checker.
 struct Plain;
@@ -56,5 +60,37 @@ impl Implementation for Plain {
 fn agrees_with_the_reference() {
     if let Err(difference) = compare(&Reference, &Plain, 15_000, 1) {
         panic!("{difference}");
+    }
+}
+
+/// Makes both calls, and compares every number answered and every lent byte.
+fn same(unfolding: &mut Unfolding, contender: Contender) {
+    let same = unfolding.outcome(PLAIN) == unfolding.outcome(contender);
+    assert!(same, "{:?}", unfolding.plan);
+}
+
+/// Merges with a first chain of two actions, and twelve stopped merges, which take two bursts.
+#[test]
+fn long_plans_agree_with_the_reference() {
+    for merge in MERGES {
+        same(&mut merge.longest(2, LONGEST_PLAN).1, REFERENCE);
+    }
+    same(&mut stopped_merges(STOPPED_CHAINS[0]), REFERENCE);
+}
+
+/// The longest plans of the benchmark, finished, and ended by the allowance.
+#[cfg(feature = "archive")]
+#[test]
+fn longest_plans_agree_with_the_proved_library() {
+    use benchmarks::{contenders::PROVED, workloads::longest_sum, workloads::Merge};
+    let proved = PROVED.expect("the archive is linked");
+    let chains = |merge: Merge| (2..=5).map(move |first| merge.longest(first, LONGEST_PLAN).1);
+    let merges = MERGES.into_iter().flat_map(chains);
+    let stopped = STOPPED_CHAINS.map(stopped_merges);
+    let sum = longest_sum(LONGEST_PLAN).1;
+    for mut unfolding in merges.chain(stopped).chain([sum]) {
+        same(&mut unfolding, proved);
+        unfolding.allowance = unfolding.steps as u32 * 3 / 4;
+        same(&mut unfolding, proved);
     }
 }

@@ -1,4 +1,5 @@
-//! The laws at the last word read: whether one fits, and its right side.
+//! The laws at a sign: whether one fits, and its right side. Gap buffer and graph both match
+//! with these.
 
 use reference::plans::{
     CHOICE, COMMUNICATION_MERGE, ENCAPSULATION, LAST_ENCAPSULATION, LEFT_MERGE, MERGE, PRODUCT,
@@ -7,26 +8,32 @@ use reference::plans::{
 use reference::tables::{below, blocked, communication, DEAD_STOP};
 use std::ops::RangeInclusive;
 
-/// The words read, with the start of the subplan that ends at each.
-#[derive(Clone, Copy)]
-pub struct Words<'t> {
-    pub words: &'t [u8],
-    pub starts: &'t [u16],
+/// Where terms are kept, and how they are read there.
+pub trait Terms: Copy {
+    /// What stands for a term.
+    type Term: Copy + Default;
+
+    /// The last word of a term: its action or its sign.
+    fn word(self, term: Self::Term) -> u8;
+
+    /// The operands of a term whose sign has two.
+    fn two(self, term: Self::Term) -> (Self::Term, Self::Term);
 }
 
-/// Where a subplan stands.
+/// A sign with its operands; the same one twice for a sign of one.
 #[derive(Clone, Copy, Default)]
-struct Span {
-    from: usize,
-    to: usize,
+pub struct Root<T> {
+    pub sign: u8,
+    pub p: T,
+    pub q: T,
 }
 
 /// What the letters of a law stand for.
 #[derive(Clone, Copy, Default)]
-pub struct Letters {
-    x: Span,
-    y: Span,
-    z: Span,
+pub struct Letters<T> {
+    pub x: T,
+    pub y: T,
+    z: T,
     a: u8,
     b: u8,
     sign: u8,
@@ -94,47 +101,6 @@ const RIGHT: [&[Symbol]; 32] = [
     &[X, PRI, Y, UNL, Y, PRI, X, UNL, ALT],
 ];
 
-impl Words<'_> {
-    /// The operands of the sign of two at an index.
-    fn two(self, sign: usize) -> (Span, Span) {
-        let from = self.starts[sign - 1] as usize;
-        let first = self.starts[from - 1] as usize;
-        (
-            Span {
-                from: first,
-                to: from,
-            },
-            Span { from, to: sign },
-        )
-    }
-
-    /// The operands of a subplan whose sign is this one.
-    fn under(self, sign: u8, subplan: Span) -> Option<(Span, Span)> {
-        let last = subplan.to - 1;
-        (self.words[last] == sign).then(|| self.two(last))
-    }
-
-    /// The action that a subplan is.
-    fn action(self, subplan: Span) -> Option<u8> {
-        let word = self.words[subplan.to - 1];
-        (word < 32).then_some(word)
-    }
-
-    /// The first action and the rest of a subplan a·x.
-    fn first(self, subplan: Span) -> Option<(u8, Span)> {
-        let (a, x) = self.under(PRODUCT, subplan)?;
-        Some((self.action(a)?, x))
-    }
-
-    fn is_stop(self, subplan: Span) -> bool {
-        self.words[subplan.to - 1] == DEAD_STOP
-    }
-
-    fn same(self, x: Span, y: Span) -> bool {
-        self.words[x.from..x.to] == self.words[y.from..y.to]
-    }
-}
-
 /// The laws of 5 to 32 with this sign at the root of their left side.
 fn candidates(sign: u8) -> RangeInclusive<u8> {
     match sign {
@@ -150,135 +116,155 @@ fn candidates(sign: u8) -> RangeInclusive<u8> {
     }
 }
 
-/// The lowest of laws 5 to 32 that fits at the last word.
-pub fn lowest(tables: &[u8], words: Words) -> Option<(u8, Letters)> {
-    let sign = words.words[words.words.len() - 1];
-    candidates(sign).find_map(|law| fit(law, tables, words).map(|letters| (law, letters)))
+/// The lowest of laws 5 to 32 that fits at a sign.
+pub fn lowest<S: Terms>(
+    tables: &[u8],
+    terms: S,
+    root: Root<S::Term>,
+) -> Option<(u8, Letters<S::Term>)> {
+    candidates(root.sign).find_map(|law| Some((law, fit(law, tables, terms, root)?)))
 }
 
-/// What the letters of a law stand for, if it fits at the last word.
-pub fn fit(law: u8, tables: &[u8], words: Words) -> Option<Letters> {
-    let last = words.words.len() - 1;
-    let sign = words.words[last];
-    match (law, sign) {
+/// What the letters of a law stand for, if it fits at a sign. Law 4 fits here at every x + y:
+/// whether both are the same is the caller's to see.
+pub fn fit<S: Terms>(
+    law: u8,
+    tables: &[u8],
+    terms: S,
+    root: Root<S::Term>,
+) -> Option<Letters<S::Term>> {
+    let matching = Matching {
+        tables,
+        terms,
+        root,
+    };
+    match (law, root.sign) {
         (1..=4 | 7..=8, CHOICE)
         | (5..=6 | 9, PRODUCT)
         | (11, MERGE)
         | (12..=14, LEFT_MERGE)
         | (10 | 15..=19, COMMUNICATION_MERGE)
-        | (24..=29, UNLESS) => {
-            let (x, y) = words.two(last);
-            fit_two(law, tables, words, x, y)
-        }
-        (20..=23, ENCAPSULATION..=LAST_ENCAPSULATION) | (30..=32, THETA) => {
-            let from = words.starts[last] as usize;
-            fit_one(law, tables, words, sign, Span { from, to: last })
-        }
+        | (24..=29, UNLESS) => matching.two(law),
+        (20..=23, ENCAPSULATION..=LAST_ENCAPSULATION) | (30..=32, THETA) => matching.one(law),
         _ => None,
     }
 }
 
-/// A law whose left side is a sign with the operands p and q.
-fn fit_two(law: u8, tables: &[u8], words: Words, p: Span, q: Span) -> Option<Letters> {
-    let none = Letters::default();
-    let plans = |x, y, z| Some(Letters { x, y, z, ..none });
-    match law {
-        1 | 11 => plans(p, q, none.z),
-        2 => words.under(CHOICE, q).and_then(|(y, z)| plans(p, y, z)),
-        3 | 5 | 14 | 18 | 29 => words.under(CHOICE, p).and_then(|(x, y)| plans(x, y, q)),
-        4 => words.same(p, q).then_some(Letters { x: p, ..none }),
-        6 | 28 => words.under(PRODUCT, p).and_then(|(x, y)| plans(x, y, q)),
-        7 => words.is_stop(q).then_some(Letters { x: p, ..none }),
-        8 | 9 => words.is_stop(p).then_some(Letters { x: q, ..none }),
-        10 => actions(words, p, q),
-        12 => words.action(p).map(|a| Letters { a, x: q, ..none }),
-        13 => words.first(p).map(|(a, x)| Letters { a, x, y: q, ..none }),
-        15 => {
-            let ((a, x), b) = (words.first(p)?, words.action(q)?);
-            Some(Letters { a, b, x, ..none })
-        }
-        16 => {
-            let (a, (b, x)) = (words.action(p)?, words.first(q)?);
-            Some(Letters { a, b, x, ..none })
-        }
-        17 => {
-            let ((a, x), (b, y)) = (words.first(p)?, words.first(q)?);
-            Some(Letters { a, b, x, y, ..none })
-        }
-        19 | 27 => words.under(CHOICE, q).and_then(|(y, z)| plans(p, y, z)),
-        24 => actions(words, p, q).filter(|found| !below(tables, found.a, found.b)),
-        25 => actions(words, p, q).filter(|found| below(tables, found.a, found.b)),
-        26 => words.under(PRODUCT, q).and_then(|(y, z)| plans(p, y, z)),
-        _ => None,
+/// What a left side is matched against.
+struct Matching<'t, S: Terms> {
+    tables: &'t [u8],
+    terms: S,
+    root: Root<S::Term>,
+}
+
+impl<S: Terms> Matching<'_, S> {
+    /// The operands of a term whose sign is this one.
+    fn under(&self, sign: u8, term: S::Term) -> Option<(S::Term, S::Term)> {
+        (self.terms.word(term) == sign).then(|| self.terms.two(term))
     }
-}
 
-/// Two actions a and b.
-fn actions(words: Words, p: Span, q: Span) -> Option<Letters> {
-    let (a, b) = (words.action(p)?, words.action(q)?);
-    Some(Letters {
-        a,
-        b,
-        ..Letters::default()
-    })
-}
-
-/// A law whose left side is a sign with the operand p.
-fn fit_one(law: u8, tables: &[u8], words: Words, sign: u8, p: Span) -> Option<Letters> {
-    let none = Letters {
-        sign,
-        ..Letters::default()
-    };
-    let plans = |(x, y)| Letters { x, y, ..none };
-    let action = || words.action(p).map(|a| Letters { a, ..none });
-    let in_set = |found: &Letters| blocked(tables, sign - ENCAPSULATION, found.a);
-    match law {
-        20 => action().filter(|found| !in_set(found)),
-        21 => action().filter(in_set),
-        22 | 32 => words.under(CHOICE, p).map(plans),
-        23 | 31 => words.under(PRODUCT, p).map(plans),
-        30 => action(),
-        _ => None,
+    /// The action that a term is.
+    fn action(&self, term: S::Term) -> Option<u8> {
+        let word = self.terms.word(term);
+        (word < 32).then_some(word)
     }
-}
 
-impl Letters {
-    /// The subplan that a letter stands for; none for a letter or sign of one word.
-    fn span(&self, symbol: Symbol) -> Option<Span> {
-        match symbol {
-            X => Some(self.x),
-            Y => Some(self.y),
-            Z => Some(self.z),
+    /// The first action and the rest of a term a·x.
+    fn first(&self, term: S::Term) -> Option<(u8, S::Term)> {
+        let (a, x) = self.under(PRODUCT, term)?;
+        Some((self.action(a)?, x))
+    }
+
+    fn is_stop(&self, term: S::Term) -> bool {
+        self.terms.word(term) == DEAD_STOP
+    }
+
+    /// A law whose left side is a sign with the operands p and q.
+    fn two(&self, law: u8) -> Option<Letters<S::Term>> {
+        let (none, Root { p, q, .. }) = (Letters::default(), self.root);
+        let plans = |x, y, z| Letters { x, y, z, ..none };
+        let below = |found: &Letters<S::Term>| below(self.tables, found.a, found.b);
+        match law {
+            1 | 4 | 11 => Some(plans(p, q, none.z)),
+            2 | 19 | 27 => self.under(CHOICE, q).map(|(y, z)| plans(p, y, z)),
+            3 | 5 | 14 | 18 | 29 => self.under(CHOICE, p).map(|(x, y)| plans(x, y, q)),
+            6 | 28 => self.under(PRODUCT, p).map(|(x, y)| plans(x, y, q)),
+            7 => self.is_stop(q).then_some(Letters { x: p, ..none }),
+            8 | 9 => self.is_stop(p).then_some(Letters { x: q, ..none }),
+            10 => self.actions(),
+            12 => self.action(p).map(|a| Letters { a, x: q, ..none }),
+            13 => self.first(p).map(|(a, x)| Letters { a, x, y: q, ..none }),
+            15 => {
+                let ((a, x), b) = (self.first(p)?, self.action(q)?);
+                Some(Letters { a, b, x, ..none })
+            }
+            16 => {
+                let (a, (b, x)) = (self.action(p)?, self.first(q)?);
+                Some(Letters { a, b, x, ..none })
+            }
+            17 => {
+                let ((a, x), (b, y)) = (self.first(p)?, self.first(q)?);
+                Some(Letters { a, b, x, y, ..none })
+            }
+            24 => self.actions().filter(|found| !below(found)),
+            25 => self.actions().filter(below),
+            26 => self.under(PRODUCT, q).map(|(y, z)| plans(p, y, z)),
+            _ => None,
+        }
+    }
+
+    /// Two actions a and b.
+    fn actions(&self) -> Option<Letters<S::Term>> {
+        let (a, b) = (self.action(self.root.p)?, self.action(self.root.q)?);
+        let none = Letters::default();
+        Some(Letters { a, b, ..none })
+    }
+
+    /// A law whose left side is a sign with the operand p.
+    fn one(&self, law: u8) -> Option<Letters<S::Term>> {
+        let Root { sign, p, .. } = self.root;
+        let none = Letters {
+            sign,
+            ..Letters::default()
+        };
+        let plans = |(x, y)| Letters { x, y, ..none };
+        let action = || self.action(p).map(|a| Letters { a, ..none });
+        let in_set = |found: &Letters<S::Term>| blocked(self.tables, sign - ENCAPSULATION, found.a);
+        match law {
+            20 => action().filter(|found| !in_set(found)),
+            21 => action().filter(in_set),
+            22 | 32 => self.under(CHOICE, p).map(plans),
+            23 | 31 => self.under(PRODUCT, p).map(plans),
+            30 => action(),
             _ => None,
         }
     }
 }
 
-/// How many words the right side of a law has.
-pub fn right_size(law: u8, letters: &Letters) -> usize {
-    let size = |&symbol| letters.span(symbol).map_or(1, |span| span.to - span.from);
-    RIGHT[law as usize - 1].iter().map(size).sum()
+/// A piece of a right side.
+pub enum Piece<T> {
+    /// A term that a letter stands for.
+    Term(T),
+    /// A word.
+    Word(u8),
 }
 
-/// Writes the right side of a law into a space of its size.
-pub fn put_right(law: u8, tables: &[u8], letters: &Letters, words: &[u8], space: &mut [u8]) {
-    let mut at = 0;
-    for &symbol in RIGHT[law as usize - 1] {
-        let word = match symbol {
-            X | Y | Z => {
-                let span = letters.span(symbol).unwrap_or_default();
-                let end = at + span.to - span.from;
-                space[at..end].copy_from_slice(&words[span.from..span.to]);
-                at = end;
-                continue;
-            }
-            A => letters.a,
-            B => letters.b,
-            Entry => communication(tables, letters.a, letters.b),
-            Sign => letters.sign,
-            Word(word) => word,
-        };
-        space[at] = word;
-        at += 1;
-    }
+/// The right side of a law, its letters replaced by what they stand for.
+pub fn right<T: Copy>(
+    law: u8,
+    tables: &[u8],
+    letters: Letters<T>,
+) -> impl DoubleEndedIterator<Item = Piece<T>> + Clone {
+    let together = communication(tables, letters.a, letters.b);
+    let piece = move |&symbol: &Symbol| match symbol {
+        X => Piece::Term(letters.x),
+        Y => Piece::Term(letters.y),
+        Z => Piece::Term(letters.z),
+        A => Piece::Word(letters.a),
+        B => Piece::Word(letters.b),
+        Entry => Piece::Word(together),
+        Sign => Piece::Word(letters.sign),
+        Word(word) => Piece::Word(word),
+    };
+    RIGHT[law as usize - 1].iter().map(piece)
 }

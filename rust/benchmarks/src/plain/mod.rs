@@ -1,18 +1,23 @@
-//! The library's algorithm in plain Rust, without proofs: a plan under work as a gap buffer.
+//! The library's algorithm in plain Rust, without proofs.
 //!
-//! The words read stand in one array, each with the start of the subplan that ends there; the
-//! words still to read stand at the end of another. The unfolding moves forward until one of
-//! laws 5 to 32 fits at the last word read, copies the subplan out, writes the right side in
-//! front of the rest, and goes on from the cut: nothing fits before it. The checker moves the
-//! gap to each step's place.
+//! The unfolding makes its steps on a graph of terms (`graph.rs`), in bursts: a burst ends when
+//! all is read, when no node more can be made, or when a step cannot be made, and the plan is
+//! then written out into a gap buffer (`gap.rs`). There the words are scanned from the front for
+//! the next step. No step: finished. A step that cannot be made: 34, 35 or 36. Else it is made,
+//! and the next burst begins. The checker works on the gap buffer alone, and moves the gap to
+//! each step's place. Nothing is allocated.
 
 mod gap;
+mod graph;
 mod laws;
+mod records;
 
 use gap::Gap;
+use graph::Graph;
+use records::Records;
 use reference::plans::{judge, judge_plan};
 use reference::runs::room;
-use reference::unfolding::{record, RECORD};
+use reference::unfolding::RECORD;
 use reference::{checking, unfolding, Refusal};
 
 /// Unfolds a plan; answers and lent bytes are those of document 01.
@@ -32,8 +37,14 @@ pub fn unfold(
         return unfolding::Answer::Refused(Refusal::nowhere(15));
     }
     let mut gap = Gap::load(plan);
-    let number = unfold_within(tables, &mut gap, allowance as usize, list, room);
-    list[RECORD * gap.steps..].fill(0);
+    let mut records = Records::new(list, allowance as usize);
+    let number = loop {
+        burst(tables, &mut gap, &mut records, room);
+        if let Some(number) = turn(tables, &mut gap, &mut records, room) {
+            break number;
+        }
+    };
+    records.close();
     gap.store(a, b);
     unfolding::Answer::Ended {
         number,
@@ -42,28 +53,28 @@ pub fn unfold(
     }
 }
 
-/// Makes steps until none is left (0), or 34, 35, 36.
-fn unfold_within(
-    tables: &[u8],
-    gap: &mut Gap,
-    allowance: usize,
-    list: &mut [u8],
-    room: usize,
-) -> u8 {
-    while let Some((law, letters)) = gap.scan(tables) {
-        let (place, at) = (gap.read - 1, RECORD * gap.steps);
-        if gap.steps == allowance {
-            return 34;
-        }
-        if list.len() - at < RECORD {
-            return 35;
-        }
-        if !gap.put(tables, law, &letters, room) {
-            return 36;
-        }
-        list[at..at + RECORD].copy_from_slice(&record(law, place));
+/// Makes steps on a graph, as many as can be made on one.
+fn burst(tables: &[u8], gap: &mut Gap, records: &mut Records, room: usize) {
+    let mut graph = Graph::empty();
+    gap.hand_over(&mut graph);
+    graph.walk(tables, records, room);
+    gap.take_over(&mut graph);
+}
+
+/// Makes the next step, or answers how the unfolding ends: 0, 34, 35 or 36.
+fn turn(tables: &[u8], gap: &mut Gap, records: &mut Records, room: usize) -> Option<u8> {
+    let Some((law, letters)) = gap.scan(tables) else {
+        return Some(0);
+    };
+    let place = gap.read - 1;
+    if let Some(number) = records.full() {
+        return Some(number);
     }
-    0
+    if !gap.put(tables, law, letters, room) {
+        return Some(36);
+    }
+    records.put(law, place);
+    None
 }
 
 /// Checks a rewriting; answers and lent bytes are those of document 01.
@@ -131,9 +142,37 @@ fn replay(tables: &[u8], gap: &mut Gap, rewriting: &[u8], room: usize) -> u8 {
         let Some(letters) = gap.fit(tables, law) else {
             return 31;
         };
-        if !gap.put(tables, law, &letters, room) {
+        if !gap.put(tables, law, letters, room) {
             return 32;
         }
     }
     0
+}
+
+#[cfg(test)]
+mod tests {
+    use super::*;
+    use crate::workloads::{stopped_merges, Unfolding, STOPPED_CHAINS};
+    use reference::plans::LONGEST_PLAN;
+
+    /// How many bursts an unfolding takes.
+    fn bursts(unfolding: &Unfolding) -> usize {
+        let mut list = vec![0; RECORD * unfolding.steps];
+        let mut records = Records::new(&mut list, usize::MAX);
+        let mut gap = Gap::load(&unfolding.plan);
+        let mut bursts = 0;
+        let mut ended = None;
+        while ended.is_none() {
+            burst(&unfolding.tables, &mut gap, &mut records, LONGEST_PLAN);
+            ended = turn(&unfolding.tables, &mut gap, &mut records, LONGEST_PLAN);
+            bursts += 1;
+        }
+        bursts
+    }
+
+    #[test]
+    fn bursts_follow_one_another() {
+        let unfoldings = STOPPED_CHAINS.map(stopped_merges);
+        assert_eq!(unfoldings.each_ref().map(bursts), [2, 4]);
+    }
 }

@@ -1,0 +1,99 @@
+//! Prints how much stack each call of the proved library needs: the least stack of a thread, in
+//! whole KiB, in which the call comes to its end.
+//!
+//! A thread that needs more ends its process, so each try is a process of its own: this command
+//! again, with the call's name and the stack's KiB. The thread's own beginning is counted with
+//! the call.
+
+use aberulwy::raw;
+use benchmarks::contenders::PROVED;
+use benchmarks::workloads::{long_sum, stopped_merges, Call, Places, Replay, STOPPED_CHAINS};
+use reference::plans::LONGEST_PLAN;
+use reference::stations::write_station;
+use reference::tables::{trial_tables, TABLES_LENGTH};
+use std::env::{args, current_exe};
+use std::process::{Command, Stdio};
+use std::thread::Builder;
+
+/// More than any call needs, in KiB.
+const ENOUGH: usize = 4096;
+/// A thread that asks for less may get more, so less is not tried.
+const LITTLE: usize = 32;
+const CALLS: [&str; 7] = [
+    "judge_tables",
+    "judge_plan",
+    "is_basic",
+    "count_orders",
+    "unfold",
+    "check",
+    "read_station",
+];
+
+fn main() {
+    let given: Vec<String> = args().skip(1).collect();
+    if let [call, kib] = &given[..] {
+        return attempt(call, kib.parse().expect("a number of KiB"));
+    }
+    println!("| call | KiB |");
+    println!("|---|--:|");
+    for call in CALLS {
+        println!("| {call} | {} |", least(call));
+    }
+}
+
+/// The least stack with which a call comes to its end.
+fn least(call: &str) -> String {
+    let (mut too_little, mut enough) = (LITTLE, ENOUGH);
+    assert!(succeeds(call, enough), "{call} does not end well");
+    if succeeds(call, too_little) {
+        return format!("at most {LITTLE}");
+    }
+    while enough - too_little > 1 {
+        let middle = (too_little + enough) / 2;
+        match succeeds(call, middle) {
+            true => enough = middle,
+            false => too_little = middle,
+        }
+    }
+    enough.to_string()
+}
+
+/// Whether a process with this try ends well.
+fn succeeds(call: &str, kib: usize) -> bool {
+    let mut command = Command::new(current_exe().expect("this command has a path"));
+    command.args([call, &kib.to_string()]);
+    let ended = command.stdout(Stdio::null()).stderr(Stdio::null()).status();
+    ended.expect("this command runs again").success()
+}
+
+/// Makes a call in a thread with this stack.
+fn attempt(call: &str, kib: usize) {
+    let thread = Builder::new().stack_size(1024 * kib).spawn(prepared(call));
+    let number = thread.expect("a thread begins").join();
+    assert_eq!(number.expect("the call ends"), 0, "the number of {call}");
+}
+
+/// A call with all that it is handed; it answers its number.
+fn prepared(call: &str) -> Box<dyn FnOnce() -> u8 + Send> {
+    let (tables, plan) = (trial_tables(), long_sum(LONGEST_PLAN));
+    let proved = PROVED.expect("the archive is linked");
+    match call {
+        "judge_tables" => Box::new(move || raw::judge_tables(&tables).number),
+        "judge_plan" => Box::new(move || raw::judge_plan(&tables, &plan).number),
+        "is_basic" => Box::new(move || raw::is_basic(&tables, &plan).number),
+        "count_orders" => Box::new(move || raw::count_orders(&tables, &plan).number),
+        "unfold" => {
+            let mut unfolding = stopped_merges(STOPPED_CHAINS[1]);
+            Box::new(move || unfolding.run(proved).0)
+        }
+        "check" => {
+            let mut replay = Replay::new(LONGEST_PLAN, Places::Far, 400);
+            Box::new(move || replay.run(proved).0)
+        }
+        _ => {
+            let file = write_station(&tables, &plan);
+            let (mut a, mut b) = (vec![0; TABLES_LENGTH], vec![0; LONGEST_PLAN]);
+            Box::new(move || raw::read_station(&file, &mut a, &mut b).number)
+        }
+    }
+}
