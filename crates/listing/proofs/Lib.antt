@@ -5,5 +5,6 @@ mod Turns
 mod Ending
 mod Unfolds
 mod Files
+mod Endings
 pub mod Outcome
 mod Examples

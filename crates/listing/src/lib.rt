@@ -8,6 +8,7 @@ ghost use Rattle.tables.specs.Tables.{actions};
 ghost use Rattle.buffer.specs.Areas.{even?};
 ghost use Rattle.demands.specs.Claims.{reached-part, own-rewriting};
 ghost use Rattle.listing.specs.Listing.{ending, plan-listing, listing};
+ghost use Rattle.listing.specs.Endings.{Endings};
 ghost use Rattle.listing.specs.Writing.{ListOutcome, list-outcome, most};
 
 mod lines;
@@ -96,10 +97,11 @@ fn put_station(file: &[u8], out: &mut [u8]) -> usize
 }
 
 // Lists a station file: everything that the program prints for it, with zeros behind, or `Short` where the area is too short for it, which then
-// keeps its bytes. No listing is longer than 93,000 bytes.
+// keeps its bytes. No listing is longer than 93,000 bytes, and the number behind `end` is 0, 34 or 36.
 pub fn list_station(file: &[u8], out: &mut [u8]) -> Listed
     ensures whole { λ r. ⌜ _≡_ {A = ListOutcome} (record { answer = r; out = now (out .exit) }) (list-outcome (now (file .entry)) (now (out .entry))) ⌝ }
     ensures bounded { λ r. ⌜ length (listing (now (file .entry))) ≤ most ⌝ }
+    ensures endings { λ r. ⌜ Endings (now (file .entry)) ⌝ }
 {
     let mut text = [0u8; LONGEST];
     let size = put_station(file, &mut text);

@@ -1,6 +1,7 @@
 -- `listing::list_station` meets its contract: the text made is copied out where it fits, with zeros behind it.
 use mathlib.Core.Path.{sym}
 use lib.Seq.{length-take-le}
+use Rattle.listing.proofs.Endings.{endings}
 use Rattle.listing.proofs.Outcome.{bounded, too-short, copied}
 use native.Mathlib.Omega.{arith}
 use borrow.Author.Needs.{needs}
@@ -18,7 +19,7 @@ returns c =
     let t = c .before .before .put-station in
     let s = c .before .before .before .before .before .before .args in (
       too-short (s .file .now) (s .out .now) _ _ (t .ensures .0) (t .ensures .1) (t .kept .1 .0) (omega arith),
-      bounded (s .file .now) (s .out .now) _ _ (t .ensures .0) (t .ensures .1) (t .kept .1 .0),
+      (bounded (s .file .now) (s .out .now) _ _ (t .ensures .0) (t .ensures .1) (t .kept .1 .0), endings (s .file .now)),
     )
 
 array-share-prefix-text : tie.Need-array-share-prefix-text
@@ -44,7 +45,7 @@ returns-2 c =
     let s = c .before .before .before .before .before .before .before .before .before .before .before .before .before .before .before .args in
     let k = c .before .before .before .before .before .before .copy-in in (
       copied (s .file .now) (s .out .now) _ _ (t .ensures .0) (t .ensures .1) (t .kept .1 .0) (omega arith) (k .ensures .0) (k .kept .1 .0) (c .before .before .clear-from .ensures),
-      bounded (s .file .now) (s .out .now) _ _ (t .ensures .0) (t .ensures .1) (t .kept .1 .0),
+      (bounded (s .file .now) (s .out .now) _ _ (t .ensures .0) (t .ensures .1) (t .kept .1 .0), endings (s .file .now)),
     )
 
 pub list-station-spec : {M : Type 1} → statement M
