@@ -9,6 +9,7 @@ use lib.ListN.{length}
 use lib.Dec.{leb, ltb}
 use borrow.Author.Tests.{le-ltb}
 use Rattle.refusals.specs.declared.Refusal.{Refusal}
+use Rattle.refusals.proofs.Judging.{none-of-both}
 use Rattle.tables.specs.Tables.{Tables}
 use Rattle.plans.specs.Judging.{plan-refusal}
 use Rattle.stations.specs.Block.{refuse-unless}
@@ -17,7 +18,6 @@ use Rattle.stations.proofs.Reading.{areas-fit}
 use Rattle.steps.specs.Records.{record-of}
 use Rattle.steps.specs.Choice.{Found, next-step}
 use Rattle.unfolding.specs.Unfolding.{Run, on-found, stop-if, run, run-of, unfold-refusal}
-use Rattle.checking.proofs.Replaying.{none-first}
 use Rattle.listing.specs.Listing.{unless-refused, run-listing, plan-listing, listing}
 use Rattle.listing.specs.Endings.{EndNumber, finished, steps-spent, plan-too-long, file-run, Endings, ended, refused}
 
@@ -61,9 +61,9 @@ module _ (f : List ℕ) where
   sound : file-refusal f 2305 8192 ≡ none → (length (plan-held f) ≤ 8192) × (plan-refusal (tables-held f) (plan-held f) ≡ none)
   unfolding file-refusal held-refusal
   sound e =
-      let h = none-first (form-refusal f) (held-refusal (tables-held f) (plan-held f) 2305 8192) e .1 in (
+      let h = none-of-both (form-refusal f) (held-refusal (tables-held f) (plan-held f) 2305 8192) .0 e .1 in (
         areas-fit (tables-held f) (plan-held f) 2305 8192 h .1,
-        none-first (refuse-unless 55 (leb 2305 2305 && leb (length (plan-held f)) 8192)) (plan-refusal (tables-held f) (plan-held f)) h .1,
+        none-of-both (refuse-unless 55 (leb 2305 2305 && leb (length (plan-held f)) 8192)) (plan-refusal (tables-held f) (plan-held f)) .0 h .1,
       )
 
   unfolds : file-refusal f 2305 8192 ≡ none → unfold-refusal (tables-held f) (plan-held f) 8192 ≡ none

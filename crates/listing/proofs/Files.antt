@@ -6,6 +6,7 @@ use mathlib.Core.List.{List, append-nil}
 use mathlib.Core.Option.{Option, none, some}
 use lib.ListN.{length, take}
 use Rattle.refusals.specs.declared.Refusal.{Refusal}
+use Rattle.refusals.proofs.Judging.{none-of-both}
 use Rattle.areas.specs.Area.{padded}
 use Rattle.stations.specs.declared.StationRead.{StationRead}
 use Rattle.stations.specs.declared.StationRead.the-variants.{Read, Refused}
@@ -13,7 +14,6 @@ use Rattle.stations.specs.File.{form-refusal, file-refusal, tables-held, plan-h
 use Rattle.stations.specs.File as file-of
 use Rattle.stations.proofs.Forms.{tables-long}
 use Rattle.stations.proofs.Reading.{areas-fit}
-use Rattle.checking.proofs.Replaying.{none-first}
 use Rattle.demands.proofs.Claims.{take-padded}
 use Rattle.listing.specs.Listing as listing-of
 use Rattle.listing.specs.Listing.{refused-line, plan-listing, listing}
@@ -50,7 +50,7 @@ module _ (f t p : List ℕ) (ht : length t ≡ 2305) (hp : length p ≡ 8192) wh
   fits : file-refusal f 2305 8192 ≡ none → (length (tables-held f) ≡ 2305) × (length (plan-held f) ≤ 8192)
   unfolding file-refusal
   fits e =
-      let h = none-first (form-refusal f) _ e in
+      let h = none-of-both (form-refusal f) _ .0 e in
       (tables-long f (h .0), areas-fit (tables-held f) (plan-held f) 2305 8192 (h .1) .1)
 
   read-by : {t′ p′ : List ℕ} {k : ℕ} → file-refusal f 2305 8192 ≡ none → k ≡ length (plan-held f) → t′ ≡ padded (tables-held f) (length t) → p′ ≡ padded (plan-held f) (length p) → Prints f t′ p′ k

@@ -9,6 +9,7 @@ use lib.ListN.{length, take}
 use lib.Dec.{eqb, ltb}
 use borrow.Author.Tests.{eqb-true, ltb-false}
 use Rattle.refusals.specs.declared.Refusal.{Refusal}
+use Rattle.refusals.proofs.Judging.{none-of-both}
 use Rattle.areas.specs.Area.{padded}
 use Rattle.tables.specs.Tables.{Tables, actions}
 use Rattle.plans.specs.Judging.{plan-refusal}
@@ -19,7 +20,6 @@ use Rattle.unfolding.specs.declared.Unfolded.{Unfolded}
 use Rattle.unfolding.specs.declared.Unfolded.the-variants.{Finished, Stopped, Refused}
 use Rattle.unfolding.specs.Unfolding.{Run, run-of, unfold-refusal, unfold-outcome, UnfoldOutcome}
 use Rattle.unfolding.specs.Unfolding as unfolding-of
-use Rattle.checking.proofs.Replaying.{none-first}
 use Rattle.demands.specs.Claims.{reached-part, own-rewriting}
 use Rattle.demands.proofs.Claims.{take-padded, reached-is}
 use Rattle.demands.proofs.Running.{Followed, followed}
@@ -88,11 +88,11 @@ module _ (t : Tables) (plan list a b : List ℕ) (hl : length list ≡ 15000) (h
 
   few-of : unfold-refusal t plan 8192 ≡ none → actions t ≤ 31
   unfolding unfold-refusal
-  few-of h = few-actions t (plan-accepted-iff t plan .0 (none-first (plan-refusal t plan) _ h .0) .0)
+  few-of h = few-actions t (plan-accepted-iff t plan .0 (none-of-both (plan-refusal t plan) _ .0 h .0) .0)
 
   fits : unfold-refusal t plan 8192 ≡ none → length plan ≤ 8192
   unfolding unfold-refusal
-  fits h = go (ltb 8192 (length plan)) _ refl (none-first (plan-refusal t plan) _ h .1)
+  fits h = go (ltb 8192 (length plan)) _ refl (none-of-both (plan-refusal t plan) _ .0 h .1)
     where
       go : (x : Bool) (f : Refusal) → ltb 8192 (length plan) ≡ x → cond x (some f) none ≡ none → length plan ≤ 8192
       go true f q e = never (sym e)
