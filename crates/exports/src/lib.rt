@@ -1,7 +1,10 @@
-// The public calls for C and Rust: numbers and byte slices only. Each answers document 01's number and sets every out number.
+// The public calls for C and Rust: numbers and byte slices only. Each answers document 01's number and sets every out number; the two that only
+// hand bytes over, `aberulwy_reached` and `aberulwy_list_station`, answer 0, or 1 where the area is too short.
 use aberulwy::BasicAnswer;
 use aberulwy::OrdersAnswer;
+use aberulwy::OwnCheck;
 use checking::Checked;
+use listing::Listed;
 use refusals::Judgement;
 use refusals::Refusal;
 use stations::StationRead;
@@ -15,12 +18,14 @@ ghost use Rattle.tables.specs.Judging.{table-refusal};
 ghost use Rattle.plans.specs.Judging.{plan-refusal};
 ghost use Rattle.plans.specs.Basic.{basic-words?, orders-of};
 ghost use Rattle.stations.specs.File.{plan-held, file-refusal, station-outcome};
-ghost use Rattle.buffer.specs.Areas.{capacity};
+ghost use Rattle.buffer.specs.Areas.{capacity, even?};
 ghost use Rattle.unfolding.specs.Unfolding.{run-of, unfold-refusal, unfold-outcome};
 ghost use Rattle.checking.specs.Checking.{replay-of, check-refusal, check-outcome};
 ghost use Rattle.aberulwy.specs.Judging.{bit};
-ghost use Rattle.aberulwy.specs.Rewriting.{reported-run, reported-replay};
-ghost use Rattle.exports.specs.Answers.{Answered};
+ghost use Rattle.demands.specs.Claims.{reached-part};
+ghost use Rattle.aberulwy.specs.Rewriting.{unfold-report, check-report, own-report, reported-run, reported-replay, reported-own, both-outcome};
+ghost use Rattle.listing.specs.Listing.{listing};
+ghost use Rattle.exports.specs.Answers.{Answered, MaybeAnswered, HandedOver, handed-over};
 
 // Answers a refusal's number and sets its place.
 fn refuse(refusal: Refusal, place: &mut usize) -> u8
@@ -30,6 +35,105 @@ fn refuse(refusal: Refusal, place: &mut usize) -> u8
     let at = refusal.place;
     *place = refusals::print_place(at);
     number
+}
+
+// Answers the number of an unfolding's answer and sets its values and its place.
+fn hand_unfolded(answer: Unfolded, steps: &mut usize, size: &mut usize, place: &mut usize) -> u8
+    ensures { λ r. ⌜ Answered (unfold-report answer) r (now (place .exit)) (now (steps .exit)) (now (size .exit)) ⌝ }
+{
+    *steps = 0;
+    *size = 0;
+    *place = 0;
+    match answer {
+        Unfolded::Finished {
+            steps: made,
+            size: reached,
+        } => {
+            *steps = made;
+            *size = reached;
+            0
+        }
+        Unfolded::Stopped {
+            number: stop,
+            steps: before,
+            size: left,
+        } => {
+            *steps = before;
+            *size = left;
+            stop
+        }
+        Unfolded::Refused(refusal) => refuse(refusal, place),
+    }
+}
+
+// Answers the number of a check's answer and sets its values and its place.
+fn hand_checked(answer: Checked, steps: &mut usize, size: &mut usize, place: &mut usize) -> u8
+    ensures { λ r. ⌜ Answered (check-report answer) r (now (place .exit)) (now (steps .exit)) (now (size .exit)) ⌝ }
+{
+    *steps = 0;
+    *size = 0;
+    *place = 0;
+    match answer {
+        Checked::Accepted {
+            steps: followed,
+            size: held,
+        } => {
+            *steps = followed;
+            *size = held;
+            0
+        }
+        Checked::TurnedBack {
+            number: fault,
+            steps: followed,
+            size: held,
+        } => {
+            *steps = followed;
+            *size = held;
+            fault
+        }
+        Checked::Refused(refusal) => refuse(refusal, place),
+    }
+}
+
+// Says whether an unfolding's own rewriting was checked, and sets the numbers of that check, zeros where it was not.
+fn hand_own(
+    own: OwnCheck,
+    checked: &mut usize,
+    number: &mut usize,
+    steps: &mut usize,
+    size: &mut usize,
+    place: &mut usize,
+)
+    ensures { λ r. ⌜ MaybeAnswered (own-report own) (now (checked .exit)) (now (number .exit)) (now (place .exit)) (now (steps .exit)) (now (size .exit)) ⌝ }
+{
+    match own {
+        OwnCheck::Checked(answer) => {
+            *checked = 1;
+            let said = hand_checked(answer, steps, size, place);
+            *number = said as usize;
+        }
+        OwnCheck::NotChecked => {
+            *checked = 0;
+            *number = 0;
+            *steps = 0;
+            *size = 0;
+            *place = 0;
+        }
+    }
+}
+
+// Hands bytes over in an area, with zeros behind, and sets their length; or answers 1 where the area is too short, which then keeps its bytes.
+fn hand_over(bytes: &[u8], out: &mut [u8], size: &mut usize) -> u8
+    ensures { λ r. ⌜ _≡_ {A = HandedOver} (record { number = r; size = now (size .exit); out = now (out .exit) }) (handed-over (now (bytes .entry)) (now (out .entry))) ⌝ }
+{
+    *size = 0;
+    if out.len() < bytes.len() {
+        return 1;
+    }
+    let end = areas::copy_in(bytes, &mut *out, 0);
+    areas::clear_from(out, end);
+    *size = end;
+    0
 }
 
 // Judges tables: 0 where they are accepted, or the number of the refusal and its place.
@@ -115,29 +219,58 @@ pub extern "C" fn aberulwy_unfold(
     ensures whole { λ r. ⌜ Answered (reported-run (unfold-refusal (now (tables .entry)) (now (plan .entry)) (capacity (now (a .entry)) (now (b .entry)))) (run-of (now (tables .entry)) (now (plan .entry)) allowance (length (now (list .entry))) (capacity (now (a .entry)) (now (b .entry))))) r (now (place .exit)) (now (steps .exit)) (now (size .exit)) ⌝ }
     ensures areas { λ r. ⌜ (now (list .exit) ≡ unfold-outcome (now (tables .entry)) (now (plan .entry)) allowance (now (list .entry)) (now (a .entry)) (now (b .entry)) .list) × (now (a .exit) ≡ unfold-outcome (now (tables .entry)) (now (plan .entry)) allowance (now (list .entry)) (now (a .entry)) (now (b .entry)) .a) × (now (b .exit) ≡ unfold-outcome (now (tables .entry)) (now (plan .entry)) allowance (now (list .entry)) (now (a .entry)) (now (b .entry)) .b) ⌝ }
 {
-    *steps = 0;
-    *size = 0;
-    *place = 0;
-    match aberulwy::unfold(tables, plan, allowance, list, a, b) {
-        Unfolded::Finished {
-            steps: made,
-            size: reached,
-        } => {
-            *steps = made;
-            *size = reached;
-            0
-        }
-        Unfolded::Stopped {
-            number: stop,
-            steps: before,
-            size: left,
-        } => {
-            *steps = before;
-            *size = left;
-            stop
-        }
-        Unfolded::Refused(refusal) => refuse(refusal, place),
-    }
+    let answer = aberulwy::unfold(tables, plan, allowance, list, a, b);
+    hand_unfolded(answer, steps, size, place)
+}
+
+// Unfolds a plan, then checks the unfolding's own rewriting in areas c and d. The number answered, `steps`, `size` and `place` are those of
+// `aberulwy_unfold`; `checked` is 1 where a check was made, and 0 where the unfolding was refused; `own_number`, `own_steps`, `own_size` and
+// `own_place` are what `aberulwy_check` would say of it, zeros where none was made.
+#[no_mangle]
+pub extern "C" fn aberulwy_unfold_checked(
+    tables: &[u8],
+    plan: &[u8],
+    allowance: u32,
+    list: &mut [u8],
+    a: &mut [u8],
+    b: &mut [u8],
+    c: &mut [u8],
+    d: &mut [u8],
+    steps: &mut usize,
+    size: &mut usize,
+    place: &mut usize,
+    checked: &mut usize,
+    own_number: &mut usize,
+    own_steps: &mut usize,
+    own_size: &mut usize,
+    own_place: &mut usize,
+) -> u8
+    ensures whole { λ r. ⌜ Answered (reported-run (unfold-refusal (now (tables .entry)) (now (plan .entry)) (capacity (now (a .entry)) (now (b .entry)))) (run-of (now (tables .entry)) (now (plan .entry)) allowance (length (now (list .entry))) (capacity (now (a .entry)) (now (b .entry))))) r (now (place .exit)) (now (steps .exit)) (now (size .exit)) ⌝ }
+    ensures own { λ r. ⌜ MaybeAnswered (reported-own (unfold-refusal (now (tables .entry)) (now (plan .entry)) (capacity (now (a .entry)) (now (b .entry)))) (now (tables .entry)) (now (plan .entry)) (run-of (now (tables .entry)) (now (plan .entry)) allowance (length (now (list .entry))) (capacity (now (a .entry)) (now (b .entry)))) (capacity (now (c .entry)) (now (d .entry)))) (now (checked .exit)) (now («own_number» .exit)) (now («own_place» .exit)) (now («own_steps» .exit)) (now («own_size» .exit)) ⌝ }
+    ensures areas { λ r. ⌜ (now (list .exit) ≡ both-outcome (now (tables .entry)) (now (plan .entry)) allowance (now (list .entry)) (now (a .entry)) (now (b .entry)) (now (c .entry)) (now (d .entry)) .unfolded .list) × (now (a .exit) ≡ both-outcome (now (tables .entry)) (now (plan .entry)) allowance (now (list .entry)) (now (a .entry)) (now (b .entry)) (now (c .entry)) (now (d .entry)) .unfolded .a) × (now (b .exit) ≡ both-outcome (now (tables .entry)) (now (plan .entry)) allowance (now (list .entry)) (now (a .entry)) (now (b .entry)) (now (c .entry)) (now (d .entry)) .unfolded .b) × (now (c .exit) ≡ both-outcome (now (tables .entry)) (now (plan .entry)) allowance (now (list .entry)) (now (a .entry)) (now (b .entry)) (now (c .entry)) (now (d .entry)) .own .a) × (now (d .exit) ≡ both-outcome (now (tables .entry)) (now (plan .entry)) allowance (now (list .entry)) (now (a .entry)) (now (b .entry)) (now (c .entry)) (now (d .entry)) .own .b) ⌝ }
+{
+    let both = aberulwy::unfold_checked(tables, plan, allowance, list, a, b, c, d);
+    let unfolded = both.unfolded;
+    let own = both.own;
+    hand_own(own, checked, own_number, own_steps, own_size, own_place);
+    hand_unfolded(unfolded, steps, size, place)
+}
+
+// Copies the plan reached, after so many steps and of so many words, out of area A or B, with zeros behind it: 0 and its length; or 1 and 0 where
+// the area is too short, which then keeps its bytes.
+#[no_mangle]
+pub extern "C" fn aberulwy_reached<'a>(
+    a: &'a [u8],
+    b: &'a [u8],
+    steps: usize,
+    size: usize,
+    plan: &mut [u8],
+    copied: &mut usize,
+) -> u8
+    ensures whole { λ r. ⌜ _≡_ {A = HandedOver} (record { number = r; size = now (copied .exit); out = now (plan .exit) }) (handed-over (reached-part (even? steps) size (now (a .entry)) (now (b .entry))) (now (plan .entry))) ⌝ }
+{
+    let part = aberulwy::reached(a, b, steps, size);
+    hand_over(part, plan, copied)
 }
 
 // Checks a rewriting: 0 where it is accepted, or 31 to 33, with the steps made and the length of the plan reached; or the number of the refusal
@@ -157,29 +290,8 @@ pub extern "C" fn aberulwy_check(
     ensures whole { λ r. ⌜ Answered (reported-replay (check-refusal (now (tables .entry)) (now (start .entry)) (now (claimed .entry)) (now (rewriting .entry)) (capacity (now (a .entry)) (now (b .entry)))) (replay-of (now (tables .entry)) (now (start .entry)) (now (claimed .entry)) (now (rewriting .entry)) (capacity (now (a .entry)) (now (b .entry))))) r (now (place .exit)) (now (steps .exit)) (now (size .exit)) ⌝ }
     ensures areas { λ r. ⌜ (now (a .exit) ≡ check-outcome (now (tables .entry)) (now (start .entry)) (now (claimed .entry)) (now (rewriting .entry)) (now (a .entry)) (now (b .entry)) .a) × (now (b .exit) ≡ check-outcome (now (tables .entry)) (now (start .entry)) (now (claimed .entry)) (now (rewriting .entry)) (now (a .entry)) (now (b .entry)) .b) ⌝ }
 {
-    *steps = 0;
-    *size = 0;
-    *place = 0;
-    match aberulwy::check_rewriting(tables, start, claimed, rewriting, a, b) {
-        Checked::Accepted {
-            steps: followed,
-            size: held,
-        } => {
-            *steps = followed;
-            *size = held;
-            0
-        }
-        Checked::TurnedBack {
-            number: fault,
-            steps: followed,
-            size: held,
-        } => {
-            *steps = followed;
-            *size = held;
-            fault
-        }
-        Checked::Refused(refusal) => refuse(refusal, place),
-    }
+    let answer = aberulwy::check_rewriting(tables, start, claimed, rewriting, a, b);
+    hand_checked(answer, steps, size, place)
 }
 
 // Reads a station file into a tables area and a plan area: 0 with the plan's length; or the number of the refusal and its place.
@@ -202,5 +314,21 @@ pub extern "C" fn aberulwy_read_station(
             0
         }
         StationRead::Refused(refusal) => refuse(refusal, place),
+    }
+}
+
+// Lists a station file, everything that the program prints for it, with zeros behind it: 0 and its length; or 1 and 0 where the area is too
+// short, which then keeps its bytes. No listing is longer than 93,000 bytes.
+#[no_mangle]
+pub extern "C" fn aberulwy_list_station(file: &[u8], out: &mut [u8], size: &mut usize) -> u8
+    ensures whole { λ r. ⌜ _≡_ {A = HandedOver} (record { number = r; size = now (size .exit); out = now (out .exit) }) (handed-over (listing (now (file .entry))) (now (out .entry))) ⌝ }
+{
+    *size = 0;
+    match listing::list_station(file, out) {
+        Listed::Whole(length) => {
+            *size = length;
+            0
+        }
+        Listed::Short => 1,
     }
 }
