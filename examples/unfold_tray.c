@@ -10,9 +10,12 @@
 int main(void) {
     static uint8_t tables[2305], list[300], a[64], b[64];
     const uint8_t plan[] = {1, 2, 66};
-    tables[0] = 4;                                    /* four actions */
+    /* The trial tables of document 01. */
+    tables[0] = 4;                                       /* four actions */
     tables[1 + 32 * 1 + 2] = tables[1 + 32 * 2 + 1] = 3; /* 1|2 = 2|1 = 3 */
     for (int i = 1; i <= 4; i++) tables[1025 + i] = 1;   /* dead stop is below every action */
+    tables[1025 + 32 * 1 + 4] = 1;                       /* 1 < 4 */
+    tables[2049 + 1] = tables[2049 + 2] = 1;             /* set 0 = {1, 2} */
 
     size_t steps, size, place;
     uint8_t number = aberulwy_unfold(tables, sizeof tables, plan, sizeof plan, 100, list, sizeof list, a, sizeof a, b, sizeof b, &steps, &size, &place);

@@ -1,12 +1,18 @@
 /* Aberulwy: verified process algebra. The public calls for C, as crate `exports` defines them.
  *
- * Every call answers document 01's number: 0 where nothing is refused and nothing stops it. Every out number is set: `place` is the printed
- * form of the place (a byte's index, a step's index, or 1024 a + 32 b + c for a triple of actions; 0 where none is named), and the others are 0
- * where the call is refused. A call takes slices of any length, reads and writes nothing else, and ends. Slices must not overlap, and no
- * pointer may be null, even where its length is 0.
+ * What is returned: document 01's number, 0 where nothing is refused and nothing stops the call. aberulwy_reached and aberulwy_list_station, which
+ * have no number there, return 0, or 1 where the area handed in is too short. All else that a call answers is in its out numbers (size_t *), each
+ * of which is set in every case: *place is the printed form of the place (a byte's index, a step's index, or 1024 a + 32 b + c for a triple of
+ * actions; 0 where none is named), and the others are 0 where the call is refused.
  *
- * The archive is made by `rt staticlib exports`: target/staticlib/libexports.a. The arrays of a call come to
- * about 100 KB of stack; unfolding was run with 112 KiB, the other calls were not measured: allow 256 KiB.
+ * A call takes slices of any length, each a pointer and a length, reads and writes nothing else, and ends. What it may write to must not overlap
+ * anything else handed to it, and no pointer may be null, even where its length is 0.
+ *
+ * Stack: allow 640 KiB for aberulwy_list_station, 512 KiB for aberulwy_unfold and aberulwy_unfold_checked, 128 KiB for aberulwy_check, and 64 KiB
+ * for each other call. Measured in threads on x86-64 Linux, they run with 508, 380, 92 and 28 KiB, and each faults with 8 KiB less. Nothing is
+ * allocated.
+ *
+ * The archive is made by `rt staticlib exports`: target/staticlib/libexports.a.
  */
 #ifndef ABERULWY_H
 #define ABERULWY_H
@@ -18,33 +24,57 @@
 extern "C" {
 #endif
 
-/* Judges tables (2,305 bytes): 0, or 1 to 8. */
+/* Judges tables (2,305 bytes). Returns 0 where they are accepted, or 1 to 8. */
 uint8_t aberulwy_judge_tables(const uint8_t *tables, size_t tables_len, size_t *place);
 
-/* Judges tables and then a plan: 0, or 1 to 8, 11 to 14. */
+/* Judges tables and then a plan. Returns 0 where both are accepted, or 1 to 8, 11 to 14. */
 uint8_t aberulwy_judge_plan(const uint8_t *tables, size_t tables_len, const uint8_t *plan, size_t plan_len, size_t *place);
 
-/* Whether a plan is basic, 1 or 0; or 1 to 8, 11 to 14. */
+/* Asks whether a plan is basic. Returns 0, and then *basic is 1 where it is and 0 where it is not; or returns 1 to 8, 11 to 14. */
 uint8_t aberulwy_is_basic(const uint8_t *tables, size_t tables_len, const uint8_t *plan, size_t plan_len, size_t *basic, size_t *place);
 
-/* How many orders a basic plan allows, 0 for a plan that is not basic; or 1 to 8, 11 to 14. */
+/* Counts the orders of a basic plan. Returns 0, and then *orders is their count, 0 for a plan that is not basic; or returns 1 to 8, 11 to 14. */
 uint8_t aberulwy_count_orders(const uint8_t *tables, size_t tables_len, const uint8_t *plan, size_t plan_len, size_t *orders, size_t *place);
 
-/* Unfolds a plan: 0 finished, or 34 (allowance), 35 (list) or 36 (areas), with the steps made and the size of the plan reached; or 1 to 8, 11 to
- * 15, which leave list and areas as they are. The list holds three bytes to a step (law, place low byte first) and zeros. The plan reached stands
- * in a after an even number of steps and in b after an odd one, the plan one step before in the other, zeros behind both. */
+/* Unfolds a plan. Returns 0 where it finished, or 34 (allowance), 35 (list) or 36 (areas) where it stopped; *steps is then the count of steps made
+ * and *size that of the words of the plan reached. Or returns 1 to 8, 11 to 15, which leave list and areas as they are. The list holds three bytes
+ * for each step (law, then place, low byte first) and zeros behind. The plan reached stands in a after an even number of steps and in b after an
+ * odd one; the other area holds the plan one step before, or zeros where no step was made; zeros stand behind both. */
 uint8_t aberulwy_unfold(const uint8_t *tables, size_t tables_len, const uint8_t *plan, size_t plan_len, uint32_t allowance, uint8_t *list,
                         size_t list_len, uint8_t *a, size_t a_len, uint8_t *b, size_t b_len, size_t *steps, size_t *size, size_t *place);
 
-/* Checks a rewriting: 0 accepted, or 31 (a law does not fit), 32 (a plan too long) or 33 (another end), with the steps made and the size of the
- * plan reached; or 1 to 8, 11 to 18, which leave the areas as they are. Areas as in aberulwy_unfold. */
+/* Unfolds a plan as aberulwy_unfold does, with the same number returned and the same *steps, *size and *place, and then checks the unfolding's own
+ * rewriting, from the given plan to the plan reached, in areas c and d. *checked is 1 where that check was made, and 0 where the unfolding was
+ * refused, which leaves c and d as they are. *own_number, *own_steps, *own_size and *own_place are what aberulwy_check returns and sets for that
+ * check, and it leaves c and d as aberulwy_check does a and b; all four are 0 where no check was made. Where c is as long as a, and d as b,
+ * a check that is made accepts: that is proved. */
+uint8_t aberulwy_unfold_checked(const uint8_t *tables, size_t tables_len, const uint8_t *plan, size_t plan_len, uint32_t allowance, uint8_t *list,
+                                size_t list_len, uint8_t *a, size_t a_len, uint8_t *b, size_t b_len, uint8_t *c, size_t c_len, uint8_t *d,
+                                size_t d_len, size_t *steps, size_t *size, size_t *place, size_t *checked, size_t *own_number, size_t *own_steps,
+                                size_t *own_size, size_t *own_place);
+
+/* Copies the plan reached, after so many steps and of so many words, out of area a or b into another area. Returns 0, and then *copied is the
+ * plan's length, and zeros stand behind it; or returns 1 where the area is too short for it: it then keeps its bytes, and *copied is 0. An area a or
+ * b of fewer than size bytes is copied whole. */
+uint8_t aberulwy_reached(const uint8_t *a, size_t a_len, const uint8_t *b, size_t b_len, size_t steps, size_t size, uint8_t *plan, size_t plan_len,
+                         size_t *copied);
+
+/* Checks a rewriting from a start plan to a claimed end plan. Returns 0 where it is accepted, or 31 (a law does not fit), 32 (a plan too long) or 33
+ * (another end) where it is turned back; *steps is then the count of steps made and *size that of the words of the plan reached. Or returns 1 to 8,
+ * 11 to 18, which leave the areas as they are. The areas are left as by aberulwy_unfold. */
 uint8_t aberulwy_check(const uint8_t *tables, size_t tables_len, const uint8_t *start, size_t start_len, const uint8_t *claimed,
                        size_t claimed_len, const uint8_t *rewriting, size_t rewriting_len, uint8_t *a, size_t a_len, uint8_t *b, size_t b_len,
                        size_t *steps, size_t *size, size_t *place);
 
-/* Reads a station file: 0 with the plan's size, or 51 to 55, then 1 to 14, which leave the areas as they are. */
+/* Reads a station file into a tables area and a plan area. Returns 0, and then *size is the plan's length; the tables stand in the first 2,305
+ * bytes of their area and the plan in the first *size bytes of its own, with zeros behind both. Or returns 51 to 55, then 1 to 8, 11 to 14, which
+ * leave the areas as they are. */
 uint8_t aberulwy_read_station(const uint8_t *file, size_t file_len, uint8_t *tables, size_t tables_len, uint8_t *plan, size_t plan_len,
                               size_t *size, size_t *place);
+
+/* Lists a station file: everything that the program prints for it, refusals too. Returns 0, and then *size is the text's length, and zeros stand
+ * behind it; or returns 1 where the area is too short for it: it then keeps its bytes, and *size is 0. No listing is longer than 93,000 bytes. */
+uint8_t aberulwy_list_station(const uint8_t *file, size_t file_len, uint8_t *out, size_t out_len, size_t *size);
 
 #ifdef __cplusplus
 }
