@@ -22,6 +22,7 @@ use Rattle.unfolding.specs.declared.Turned.the-variants.{Ended, Stepped}
 use Rattle.unfolding.specs.declared.graph_run.Sped.{Sped}
 use Rattle.unfolding.specs.Walking.{SpedOf}
 use Rattle.unfolding.specs.Turns.{TurnOf, ended, stepped, Made}
+use Rattle.unfolding.proofs.Turning.{run-nowhere}
 
 abbrev zeros : ℕ → List ℕ
 zeros n = replicate n 0
@@ -95,66 +96,77 @@ sped t c m₀ w₀ list₀ list left starts right old s allowed used g right′ 
     }
 
 module _ (t : Tables) (c m₀ : ℕ) (w₀ list₀ : List ℕ) (list left starts right old : List ℕ) (s : State) (allowed used : ℕ)
-    (g : Going t c m₀ w₀ list₀ list left starts right old s allowed used) (left′ starts′ right′ old′ : List ℕ) where
-  abbrev Turning : Turned → Type 0
-  Turning o = TurnOf t c allowed (length list - used) left starts right old left′ starts′ right′ old′ s o
-
-  -- the run ends
-  pub done : (number : ℕ) (s′ : State) (o : Turned) → Turning o → o ≡ Ended number s′
-      → Made t c (run-of t w₀ m₀ (length list₀) c) left′ starts′ right′ old′ list₀ list (record { number = number; state = s′ })
-  done number s′ o (stepped law place s″ w next a b u l quiet runs) q = let z : _≡_ {A = ℕ} 0 1 = cc in absurd (omega arith)
-  done number s′ o (ended k s″ same e runs) q =
-      let z : k ≡ number = cc in
-      let z′ : s″ ≡ s′ = cc in
+    (g : Going t c m₀ w₀ list₀ list left starts right old s allowed used) where
+  -- no law fits any more: the run ends
+  pub finished : next-step t (plan-in left right s) ≡ none
+      → Made t c (run-of t w₀ m₀ (length list₀) c) left starts right old list₀ list (record { number = 0; state = s })
+  finished none-fits =
       let p = plan-in left right s in
-      let outcome = sym (g .same) ∙ runs (s .steps) (before s p old) (g .r) in
-      rw (outcome, ← z, ← z′) (
-      record {
-        working = same .working;
-        kept = rw (same .same-plan, e) (kept-moved c p old s s″ (same .same-step) (g .kept));
-        number = refl;
-        steps = ap (λ (i : State). i .steps) (same .same-step);
-        plan = same .same-plan;
-        prior = rw (same .same-plan, e) (before-moved p old s s″ (same .same-step));
-        records = g .list-is;
-      }
+      let outcome = sym (g .same) ∙ run-nowhere t c allowed (length list - used) p none-fits (s .steps) (before s p old) (g .r) in
+      rw outcome (
+      record { working = g .working; kept = g .kept; number = refl; steps = refl; plan = refl; prior = refl; records = g .list-is }
       )
 
-  -- a step was made
-  pub record Went (law place : ℕ) (s′ : State) : Type 0 where
-    pub w : List ℕ
-    pub next : Next t c left right left′ starts′ right′ old′ s s′ w
-    pub some-left : 1 ≤ allowed
-    pub room : used + 3 ≤ length list
-    pub low : place < 16384
-    pub quiet : next-step t (take (s′ .read) left′) ≡ none
-    pub runs : (k : ℕ) (v r : List ℕ)
-        → run t c allowed (length list - used) k (plan-in left right s) v r
-        ≡ run t c (allowed - 1) (length list - used - 3) (suc k) w (plan-in left right s) (r ++ record-of law place)
+  module _ (left′ starts′ right′ old′ : List ℕ) where
+    abbrev Turning : Turned → Type 0
+    Turning o = TurnOf t c allowed (length list - used) left starts right old left′ starts′ right′ old′ s o
 
-  pub went : (law place : ℕ) (s′ : State) (o : Turned) → Turning o → o ≡ Stepped law place s′ → Went law place s′
-  went law place s′ o (ended k s″ same e runs) q = let z : _≡_ {A = ℕ} 0 1 = cc in absurd (omega arith)
-  went law place s′ o (stepped law′ place′ s″ w next a b u l quiet runs) q =
-      let z : law′ ≡ law = cc in
-      let z′ : place′ ≡ place = cc in
-      let z″ : s″ ≡ s′ = cc in
-      rw (← z, ← z′, ← z″) (record { w = w; next = next; some-left = a; room = omega (arith, g .used-low); low = l; quiet = quiet; runs = runs })
+    -- the run ends, by a turn
+    pub done : (number : ℕ) (s′ : State) (o : Turned) → Turning o → o ≡ Ended number s′
+        → Made t c (run-of t w₀ m₀ (length list₀) c) left′ starts′ right′ old′ list₀ list (record { number = number; state = s′ })
+    done number s′ o (stepped law place s″ w next a b u l quiet runs) q = let z : _≡_ {A = ℕ} 0 1 = cc in absurd (omega arith)
+    done number s′ o (ended k s″ same e runs) q =
+        let z : k ≡ number = cc in
+        let z′ : s″ ≡ s′ = cc in
+        let p = plan-in left right s in
+        let outcome = sym (g .same) ∙ runs (s .steps) (before s p old) (g .r) in
+        rw (outcome, ← z, ← z′) (
+        record {
+          working = same .working;
+          kept = rw (same .same-plan, e) (kept-moved c p old s s″ (same .same-step) (g .kept));
+          number = refl;
+          steps = ap (λ (i : State). i .steps) (same .same-step);
+          plan = same .same-plan;
+          prior = rw (same .same-plan, e) (before-moved p old s s″ (same .same-step));
+          records = g .list-is;
+        }
+        )
 
-  pub goes-on : (law place : ℕ) (s′ : State) (list′ : List ℕ) → Went law place s′ → list′ ≡ overwrite list used (record-of law place) → length list′ ≡ length list
-      → Going t c m₀ w₀ list₀ list′ left′ starts′ right′ old′ s′ (allowed - 1) (used + 3)
-  unfolding record-of
-  goes-on law place s′ list′ h e long =
-      let n = h .next in
-      let room : length list′ - (used + 3) ≡ length list - used - 3 = omega arith in
-      record {
-        r = g .r ++ record-of law place;
-        working = n .working;
-        kept = rw (n .next-plan) (n .kept);
-        quiet = h .quiet;
-        list-is = e ∙ rw (g .list-is) (overwrite-padded (g .r) (record-of law place) (length list₀) used (g .used-is) (omega (arith, h .room, g .list-long)));
-        list-long = long ∙ g .list-long;
-        used-is = omega (arith, g .used-is, length-append (g .r) (record-of law place));
-        used-low = omega (arith, h .room, long);
-        count = omega (arith, g .count, n .next-steps, h .some-left);
-        same = rw (room, n .next-plan, n .next-before, n .next-steps, add-one (s .steps)) (sym (h .runs (s .steps) (before s (plan-in left right s) old) (g .r)) ∙ g .same);
-      }
+    -- a step was made
+    pub record Went (law place : ℕ) (s′ : State) : Type 0 where
+      pub w : List ℕ
+      pub next : Next t c left right left′ starts′ right′ old′ s s′ w
+      pub some-left : 1 ≤ allowed
+      pub room : used + 3 ≤ length list
+      pub low : place < 16384
+      pub quiet : next-step t (take (s′ .read) left′) ≡ none
+      pub runs : (k : ℕ) (v r : List ℕ)
+          → run t c allowed (length list - used) k (plan-in left right s) v r
+          ≡ run t c (allowed - 1) (length list - used - 3) (suc k) w (plan-in left right s) (r ++ record-of law place)
+
+    pub went : (law place : ℕ) (s′ : State) (o : Turned) → Turning o → o ≡ Stepped law place s′ → Went law place s′
+    went law place s′ o (ended k s″ same e runs) q = let z : _≡_ {A = ℕ} 0 1 = cc in absurd (omega arith)
+    went law place s′ o (stepped law′ place′ s″ w next a b u l quiet runs) q =
+        let z : law′ ≡ law = cc in
+        let z′ : place′ ≡ place = cc in
+        let z″ : s″ ≡ s′ = cc in
+        rw (← z, ← z′, ← z″) (record { w = w; next = next; some-left = a; room = omega (arith, g .used-low); low = l; quiet = quiet; runs = runs })
+
+    pub goes-on : (law place : ℕ) (s′ : State) (list′ : List ℕ) → Went law place s′ → list′ ≡ overwrite list used (record-of law place) → length list′ ≡ length list
+        → Going t c m₀ w₀ list₀ list′ left′ starts′ right′ old′ s′ (allowed - 1) (used + 3)
+    unfolding record-of
+    goes-on law place s′ list′ h e long =
+        let n = h .next in
+        let room : length list′ - (used + 3) ≡ length list - used - 3 = omega arith in
+        record {
+          r = g .r ++ record-of law place;
+          working = n .working;
+          kept = rw (n .next-plan) (n .kept);
+          quiet = h .quiet;
+          list-is = e ∙ rw (g .list-is) (overwrite-padded (g .r) (record-of law place) (length list₀) used (g .used-is) (omega (arith, h .room, g .list-long)));
+          list-long = long ∙ g .list-long;
+          used-is = omega (arith, g .used-is, length-append (g .r) (record-of law place));
+          used-low = omega (arith, h .room, long);
+          count = omega (arith, g .count, n .next-steps, h .some-left);
+          same = rw (room, n .next-plan, n .next-before, n .next-steps, add-one (s .steps)) (sym (h .runs (s .steps) (before s (plan-in left right s) old) (g .r)) ∙ g .same);
+        }

@@ -2,11 +2,13 @@
 use Prim.Native.Nat.{ℕ, _+_, _-_, _≤_, _<_}
 use native.Mathlib.Omega.{arith}
 use mathlib.Core.Path.{_≡_, refl, sym, _∙_, ap}
+use mathlib.Core.Bool.{Bool, true}
 use mathlib.Core.List.{List, [], _++_, append-nil}
 use mathlib.Core.Option.{none}
-use lib.ListN.{length, take, drop, length-append}
+use lib.Dec.{eqb}
+use lib.ListN.{length, take, drop, length-append, length-drop}
 use lib.Seq.{length-take-le}
-use borrow.Author.Tests.{ne-eqb}
+use borrow.Author.Tests.{eqb-true, ne-eqb}
 use Rattle.areas.specs.Area.{overwrite}
 use Rattle.areas.proofs.Area.{overwrite-none}
 use Rattle.tables.specs.Tables.{Tables, actions}
@@ -18,7 +20,7 @@ use Rattle.plans.specs.Judging.{words-refusal}
 use Rattle.buffer.specs.declared.State.{State}
 use Rattle.buffer.specs.Buffer.{whole, moved, before}
 use Rattle.buffer.proofs.Whole.{held-loaded}
-use Rattle.graph.specs.Graph.{Graph, Holds, held-none, Nodes}
+use Rattle.graph.specs.Graph.{Graph, Holds, held-none, ToRead, read-none, read-more, Nodes}
 use Rattle.graph.proofs.Reading.{holds-inside}
 use Rattle.steps.specs.Choice.{next-step}
 use Rattle.steps.specs.Working.{plan-in, Working, Kept}
@@ -104,6 +106,18 @@ module _ (t : Tables) (c : ℕ) (m : Arrays) (p : Progress) (w : List ℕ) (ok :
   pub plan-out : (dst : List ℕ) (r : ℕ) → WroteOut (in-use m (p .count)) (m .stack) (p .height) (m .todo) (p .rest) dst r → (drop r dst ≡ w) × (r + length w ≡ 16384)
   plan-out dst r o = rw (h .plan) (o .wrote (actions t) (h .terms) (h .behind) (ok .well-formed .few-actions) (h .held) (h .to-read))
 
+-- no entry is left to read
+none-behind : {n : ℕ} {g : Graph} {vs ws : List ℕ} → ToRead n g vs ws → length vs ≡ 0 → ws ≡ []
+none-behind read-none e = refl
+none-behind (read-more {vs} h k) e = absurd (omega arith)
+
+-- then no law fits in the plan
+all-read : (t : Tables) (c : ℕ) (m : Arrays) (p : Progress) (w : List ℕ) → Fits m p → Holding t c m p w → eqb (p .rest) 16384 ≡ true → next-step t w ≡ none
+all-read t c m p w f h e =
+    let r = eqb-true (p .rest) 16384 e in
+    let z = none-behind (h .to-read) (omega (arith, length-drop (p .rest) (m .todo), f .todo-long)) in
+    rw (h .plan, z, append-nil (spell (h .terms))) (h .quiet)
+
 -- the plan written out is under work, with nothing read
 again : (t : Tables) (left starts right right′ w : List ℕ) (s s′ : State) → Working t left starts right s → s′ .read ≡ 0 → length right′ ≡ 16384
     → (drop (s′ .rest) right′ ≡ w) × (s′ .rest + length w ≡ 16384) → words-refusal (actions t) w ≡ none
@@ -129,6 +143,7 @@ pub record Steps (t : Tables) (c allowed used : ℕ) (list list′ : List ℕ) (
   pub records : list′ ≡ overwrite list used rs
   pub used-is : r .used ≡ used + length rs
   pub used-low : r .used ≤ length list
+  pub fits : Fits m′ (r .progress)
   pub holding : Holding t c m′ (r .progress) w′
   pub cut : CutOf (actions t) (in-use m′ (r .progress .count)) (r .cut) v w′
   pub short : length v ≤ c
@@ -138,7 +153,7 @@ module _ (t : Tables) (c allowed used : ℕ) (list list′ : List ℕ) (m′ : A
   pub steps-made : WalkedOf t c allowed used list list′ m′ w s r → r .allowed < allowed → Steps t c allowed used list list′ m′ w s r
   steps-made (none-made e a u q f h) some = absurd (omega arith)
   steps-made (some-made v w′ rs n q u l f h k i runs) some =
-      record { v = v; w′ = w′; rs = rs; counted = n; records = q; used-is = u; used-low = l; holding = h; cut = k; short = i; runs = runs }
+      record { v = v; w′ = w′; rs = rs; counted = n; records = q; used-is = u; used-low = l; fits = f; holding = h; cut = k; short = i; runs = runs }
 
   module _ (h : Steps t c allowed used list list′ m′ w s r) where
     pub old-short : r .cut .old ≤ c
@@ -165,10 +180,14 @@ old-long (same-old i e) = ap length e
 module _ (t : Tables) (c allowed used : ℕ) (left starts right old list : List ℕ) (s : State) (ok : Lawful t) (work : Working t left starts right s)
     (kept : Kept c (plan-in left right s) old s) (low : used ≤ length list) (m′ : Arrays) (r : Walked) (right′ list′ : List ℕ) (front : ℕ) (long : length right′ ≡ 16384)
     (out : WroteOut (in-use m′ (r .progress .count)) (m′ .stack) (r .progress .height) (m′ .todo) (r .progress .rest) right′ front) where
+  -- whether all entries are read
+  abbrev read-all : Bool
+  read-all = eqb (r .progress .rest) 16384
+
   -- no step was made
-  sped-none : list′ ≡ list → Holding t c m′ (r .progress) (plan-in left right s)
-      → SpedOf t c allowed used left starts right old list right′ old list′ s (record { state = moved s 0 front; allowed = allowed; used = used })
-  sped-none same h =
+  sped-none : list′ ≡ list → Fits m′ (r .progress) → Holding t c m′ (r .progress) (plan-in left right s)
+      → SpedOf t c allowed used left starts right old list right′ old list′ s (record { state = moved s 0 front; allowed = allowed; used = used; finished = read-all })
+  sped-none same f h =
       let w = plan-in left right s in
       let s′ = moved s 0 front in
       let p = again t left starts right right′ w s s′ work refl long (plan-out t c m′ (r .progress) w ok h right′ front out) (h .accepted) in
@@ -182,6 +201,7 @@ module _ (t : Tables) (c allowed used : ℕ) (left starts right old list : List 
         used-low = low;
         count = refl;
         fewer = omega arith;
+        over = λ e. rw (p .0) (all-read t c m′ (r .progress) w f h e);
         runs = λ r₀. rw (p .0, before-moved w old s s′ refl, append-nil r₀);
       }
 
@@ -192,7 +212,7 @@ module _ (t : Tables) (c allowed used : ℕ) (left starts right old list : List 
   -- some steps were made
   sped-some : (old′ : List ℕ) → length old′ ≡ 16384 → RedexIn (in-use m′ (r .progress .count)) (r .cut) old′ → c ≤ 16384
       → Steps t c allowed used list list′ m′ (plan-in left right s) s r
-      → SpedOf t c allowed used left starts right old list right′ old′ list′ s (record { state = last-state; allowed = r .allowed; used = r .used })
+      → SpedOf t c allowed used left starts right old list right′ old′ list′ s (record { state = last-state; allowed = r .allowed; used = r .used; finished = read-all })
   unfolding before
   sped-some old′ old-long redex most h =
       let k = h .cut in
@@ -224,11 +244,12 @@ module _ (t : Tables) (c allowed used : ℕ) (left starts right old list : List 
         used-low = h .used-low;
         count = n .count;
         fewer = omega (arith, n .fewer);
+        over = λ e. rw (p .0) (all-read t c m′ (r .progress) (h .w′) (h .fits) (h .holding) e);
         runs = λ r₀. rw (p .0, b) (h .runs (before s w old) r₀);
       }
 
   pub sped : (old′ : List ℕ) → OldOf allowed (in-use m′ (r .progress .count)) r old old′ → c ≤ 16384 → WalkedOf t c allowed used list list′ m′ (plan-in left right s) s r
-      → SpedOf t c allowed used left starts right old list right′ old′ list′ s (record { state = last-state; allowed = r .allowed; used = r .used })
-  sped old′ (same-old i e) most (none-made e₁ e₂ e₃ same f h) = rw (e, e₁, e₂, e₃) (sped-none same h)
+      → SpedOf t c allowed used left starts right old list right′ old′ list′ s (record { state = last-state; allowed = r .allowed; used = r .used; finished = read-all })
+  sped old′ (same-old i e) most (none-made e₁ e₂ e₃ same f h) = rw (e, e₁, e₂, e₃) (sped-none same f h)
   sped old′ (same-old i e) most (some-made v w′ rs n q u l f h k j runs) = absurd (omega (arith, n .fewer))
   sped old′ (put-old i x l) most h = sped-some old′ (l ∙ kept .undoable .old-long) x most (steps-made t c allowed used list list′ m′ (plan-in left right s) s r h i)

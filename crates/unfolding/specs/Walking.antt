@@ -1,7 +1,9 @@
 -- What many steps made on a graph come to: the run goes on from the plan that they reach.
 use Prim.Native.Nat.{ℕ, _+_, _-_, _≤_, _<_}
 use mathlib.Core.Path.{_≡_}
+use mathlib.Core.Bool.{true}
 use mathlib.Core.List.{List, _++_}
+use mathlib.Core.Option.{none}
 use lib.ListN.{length, take, drop}
 use Rattle.areas.specs.Area.{overwrite}
 use Rattle.tables.specs.Tables.{Tables, actions}
@@ -11,6 +13,7 @@ use Rattle.graph.specs.Graph.{Graph, Root, Held, ToRead}
 use Rattle.buffer.specs.declared.State.{State}
 use Rattle.buffer.specs.Areas.{even?}
 use Rattle.buffer.specs.Buffer.{before}
+use Rattle.steps.specs.Choice.{next-step}
 use Rattle.steps.specs.Working.{plan-in, Working, Kept}
 use Rattle.graphsteps.specs.declared.Progress.{Progress}
 use Rattle.graphsteps.specs.declared.Cut.{Cut}
@@ -73,7 +76,7 @@ pub record RedexOf (g : Graph) (k : Cut) : Type 0 where
 pub record RedexIn (g : Graph) (k : Cut) (old : List ℕ) : Type 0 where
   pub redex-in : (n : ℕ) (u : Term) → n ≤ 31 → Root n g (k .word) (k .a) (k .b) u → take (k .old) old ≡ words u
 
--- The run was sped up: rs are the records of the steps made, and no word is read of the plan reached.
+-- The run was sped up: rs are the records of the steps made, and no word is read of the plan reached; where it is finished, no law fits in it.
 pub record SpedOf (t : Tables) (c allowed used : ℕ) (left starts right old list right′ old′ list′ : List ℕ) (s : State) (r : Sped) : Type 0 where
   pub rs : List ℕ
   pub working : Working t left starts right′ (r .state)
@@ -84,6 +87,7 @@ pub record SpedOf (t : Tables) (c allowed used : ℕ) (left starts right old lis
   pub used-low : r .used ≤ length list
   pub count : r .state .steps + r .allowed ≡ s .steps + allowed
   pub fewer : r .allowed ≤ allowed
+  pub over : r .finished ≡ true → next-step t (plan-in left right′ (r .state)) ≡ none
   pub runs : (r₀ : List ℕ)
       → run t c allowed (length list - used) (s .steps) (plan-in left right s) (before s (plan-in left right s) old) r₀
       ≡ run t c (r .allowed) (length list - r .used) (r .state .steps) (plan-in left right′ (r .state)) (before (r .state) (plan-in left right′ (r .state)) old′)

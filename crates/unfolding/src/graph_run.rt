@@ -26,11 +26,13 @@ pub struct Walked {
     pub used: usize,
 }
 
-// The plan reached as a plan under work, the steps still allowed, and how much of the list is used.
+// The plan reached as a plan under work, the steps still allowed, how much of the list is used, and whether everything was read, so that no
+// law fits any more.
 pub struct Sped {
     pub state: State,
     pub allowed: usize,
     pub used: usize,
+    pub finished: bool,
 }
 
 // Reads the entries and makes steps until all are read or one cannot be made here. Each step goes into the state and off the steps allowed,
@@ -249,5 +251,6 @@ pub fn make_steps(
         state: walked.state.moved_to(0, front),
         allowed: remaining,
         used: walked.used,
+        finished: reached.rest == MOST_WORDS,
     }
 }

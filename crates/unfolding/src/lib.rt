@@ -156,6 +156,13 @@ fn run_on(
             allowed,
             limit,
         );
+        let reached = sped.state;
+        if sped.finished {
+            return Last {
+                number: 0,
+                state: reached,
+            };
+        }
         used = sped.used;
         allowed = sped.allowed;
         let room = list.len() - used;
@@ -166,7 +173,7 @@ fn run_on(
             &mut *starts,
             &mut *right,
             &mut *old,
-            sped.state,
+            reached,
             allowed,
             room,
             limit,

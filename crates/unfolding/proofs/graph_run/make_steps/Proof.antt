@@ -227,16 +227,16 @@ same-length-2 : tie.Need-same-length-2
 same-length-2 c = search needs
 
 same-length-3 : tie.Need-same-length-3
-same-length-3 c = old-long (old-at (c .before))
+same-length-3 c = old-long (old-at (c .before .before))
 
 returns : tie.Need-returns
 returns c =
-    let d = written-at (c .before .before) in
+    let d = written-at (c .before .before .before) in
     let k = walk-of d in
     let w = d .write-out in
     let s = entry k in
     let a = s .args in
-    rw (c .moved-to .ensures) (sped (a .tables .now) (a .limit) (a .allowed) (a .used) (a .left .now) (a .starts .now) (a .right .now) (a .old .now) (a .list .now) (a .state) (s .pre .0 .1) (s .pre .1 .0) (s .pre .1 .1) (s .pre .0 .3) (arrays-after k) (k .walk .result) (w .last .1 .1 .1 .1 .1 .1 .1 .0) (k .walk .last .1 .1 .0) (w .result) (w .kept .1 .1 .1 .1 .1 .1 .1 .0 ∙ s .pre .1 .0 .held .right-long) (w .ensures) (c .before .if1 .old) (old-at (c .before)) (s .pre .0 .2) (walked-at k))
+    rw (c .before .moved-to .ensures) (sped (a .tables .now) (a .limit) (a .allowed) (a .used) (a .left .now) (a .starts .now) (a .right .now) (a .old .now) (a .list .now) (a .state) (s .pre .0 .1) (s .pre .1 .0) (s .pre .1 .1) (s .pre .0 .3) (arrays-after k) (k .walk .result) (w .last .1 .1 .1 .1 .1 .1 .1 .0) (k .walk .last .1 .1 .0) (w .result) (w .kept .1 .1 .1 .1 .1 .1 .1 .0 ∙ s .pre .1 .0 .held .right-long) (w .ensures) (c .before .before .if1 .old) (old-at (c .before .before)) (s .pre .0 .2) (walked-at k))
 
 pub make-steps-spec : {M : Type 1} → statement M
 make-steps-spec =
