@@ -11,6 +11,7 @@
 
 pub mod checking;
 pub mod laws;
+pub mod own;
 pub mod plans;
 pub mod random;
 pub mod refusals;

@@ -52,6 +52,13 @@ impl Run {
     }
 }
 
+/// "The plan reached is a part of one area or the other: A after an even number of steps, B
+/// after an odd one": the first so many words of it, or all of it where it has fewer.
+pub fn reached<'t>(a: &'t [u8], b: &'t [u8], steps: usize, size: usize) -> &'t [u8] {
+    let area = if steps.is_multiple_of(2) { a } else { b };
+    &area[..size.min(area.len())]
+}
+
 /// "All bytes past a plan, in either area, and past the records are zero."
 pub fn set(area: &mut [u8], content: &[u8]) {
     area.fill(0);

@@ -170,6 +170,17 @@ pub fn program(input: &[u8]) -> String {
     }
 }
 
+/// The text that the program prints, put into an area with zeros behind: its length; none
+/// where the area is too short, which then keeps its bytes.
+pub fn list_station(file: &[u8], out: &mut [u8]) -> Option<usize> {
+    let text = program(file);
+    if text.len() > out.len() {
+        return None;
+    }
+    set(out, text.as_bytes());
+    Some(text.len())
+}
+
 /// "or only `refused N P`".
 fn refused_line(refusal: Refusal) -> String {
     format!("refused {} {}\n", refusal.number, refusal.printed())

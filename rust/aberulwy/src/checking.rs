@@ -77,7 +77,11 @@ pub fn check(
     a: &mut [u8],
     b: &mut [u8],
 ) -> Result<Checked, Refusal> {
-    let answer = raw::check(tables, start, claimed, rewriting, a, b);
+    checked(raw::check(tables, start, claimed, rewriting, a, b))
+}
+
+/// The named answer of a check.
+pub(crate) fn checked(answer: raw::Ended) -> Result<Checked, Refusal> {
     let verdict = match answer.number {
         0 => Verdict::Accepted,
         31 => Verdict::DoesNotFit,

@@ -2,8 +2,8 @@
 //!
 //! The library judges *tables* (2,305 bytes: communication, priority, blocked sets) and
 //! *plans* (postfix words, one byte each), unfolds a plan to a basic one by laws 5 to 32,
-//! records the steps, checks anybody's rewriting by all thirty-two laws, and reads station
-//! files. Every call takes slices of any length; what is malformed is refused with a number
+//! records the steps, checks anybody's rewriting by all thirty-two laws, and reads and lists
+//! station files. Every call takes slices of any length; what is malformed is refused with a number
 //! and a place, and then no lent byte is changed. Nothing is allocated.
 //!
 //! ```
@@ -31,8 +31,9 @@
 //!
 //! # Stack
 //!
-//! A call needs a few hundred kilobytes of stack. The default of a Rust thread (2 MiB) is
-//! enough.
+//! Allow 640 KiB for [`list_station`], 512 KiB for [`unfold`] and [`unfold_checked`], 128 KiB
+//! for [`check`], and 64 KiB for each other call; `include/aberulwy.h` has what was measured.
+//! The default of a Rust thread (2 MiB) is enough for all of them.
 //!
 //! # Linking
 //!
@@ -54,13 +55,15 @@ mod unfolding;
 pub use checking::{check, Checked, Verdict};
 pub use judging::{count_orders, is_basic, judge_plan, judge_tables};
 pub use refusals::{Place, Refusal};
-pub use stations::read_station;
-pub use unfolding::{unfold, Ending, Unfolded};
+pub use stations::{list_station, read_station};
+pub use unfolding::{copy_reached, unfold, unfold_checked, Ending, Unfolded, UnfoldedChecked};
 
 /// The bytes of tables.
 pub const TABLES_LENGTH: usize = 2305;
 /// The words of the longest plan.
 pub const LONGEST_PLAN: usize = 16_384;
+/// The bytes of the longest listing; none is longer.
+pub const LONGEST_LISTING: usize = 93_000;
 /// The bytes of one record: law, then place, low byte first.
 pub const RECORD: usize = 3;
 

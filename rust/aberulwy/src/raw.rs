@@ -44,6 +44,32 @@ pub struct Ended {
     pub place: usize,
 }
 
+/// The answer of an unfolding with the check of its own rewriting.
+#[derive(Clone, Copy, Debug, PartialEq, Eq)]
+pub struct EndedChecked {
+    /// What the unfolding answers.
+    pub unfolded: Ended,
+    /// 1 where the check was made, and 0 where the unfolding was refused.
+    pub checked: usize,
+    /// The number of the check's answer; 0 where none was made.
+    pub own_number: usize,
+    /// The steps that the check made; 0 where none was made.
+    pub own_steps: usize,
+    /// The words of the plan that the check reached; 0 where none was made.
+    pub own_size: usize,
+    /// The printed place of the check's refusal; 0 where none is named.
+    pub own_place: usize,
+}
+
+/// The answer of a call that hands bytes over in an area.
+#[derive(Clone, Copy, Debug, PartialEq, Eq)]
+pub struct Handed {
+    /// 0, or 1 where the area is too short.
+    pub number: u8,
+    /// How many bytes were handed over; 0 where the area is too short.
+    pub size: usize,
+}
+
 /// The archive's functions.
 mod archive {
     extern "C" {
@@ -91,6 +117,52 @@ mod archive {
             steps: *mut usize,
             size: *mut usize,
             place: *mut usize,
+        ) -> u8;
+
+        pub fn aberulwy_unfold_checked(
+            tables: *const u8,
+            tables_len: usize,
+            plan: *const u8,
+            plan_len: usize,
+            allowance: u32,
+            list: *mut u8,
+            list_len: usize,
+            a: *mut u8,
+            a_len: usize,
+            b: *mut u8,
+            b_len: usize,
+            c: *mut u8,
+            c_len: usize,
+            d: *mut u8,
+            d_len: usize,
+            steps: *mut usize,
+            size: *mut usize,
+            place: *mut usize,
+            checked: *mut usize,
+            own_number: *mut usize,
+            own_steps: *mut usize,
+            own_size: *mut usize,
+            own_place: *mut usize,
+        ) -> u8;
+
+        pub fn aberulwy_reached(
+            a: *const u8,
+            a_len: usize,
+            b: *const u8,
+            b_len: usize,
+            steps: usize,
+            size: usize,
+            plan_area: *mut u8,
+            plan_area_len: usize,
+            copied: *mut usize,
+        ) -> u8;
+
+        pub fn aberulwy_list_station(
+            file: *const u8,
+            file_len: usize,
+            out: *mut u8,
+            out_len: usize,
+            size: *mut usize,
         ) -> u8;
 
         pub fn aberulwy_check(
@@ -228,6 +300,86 @@ pub fn unfold(
     }
 }
 
+/// Unfolds a plan as [`unfold`] does in areas A and B, then checks the unfolding's own
+/// rewriting in two further areas, unless the unfolding was refused.
+pub fn unfold_checked(
+    tables: &[u8],
+    plan: &[u8],
+    allowance: u32,
+    list: &mut [u8],
+    [a, b]: [&mut [u8]; 2],
+    [c, d]: [&mut [u8]; 2],
+) -> EndedChecked {
+    let (mut steps, mut size, mut place) = (NOT_SET, NOT_SET, NOT_SET);
+    let (mut checked, mut own_number) = (NOT_SET, NOT_SET);
+    let (mut own_steps, mut own_size, mut own_place) = (NOT_SET, NOT_SET, NOT_SET);
+    // SAFETY: see the head of this file.
+    let number = unsafe {
+        archive::aberulwy_unfold_checked(
+            tables.as_ptr(),
+            tables.len(),
+            plan.as_ptr(),
+            plan.len(),
+            allowance,
+            list.as_mut_ptr(),
+            list.len(),
+            a.as_mut_ptr(),
+            a.len(),
+            b.as_mut_ptr(),
+            b.len(),
+            c.as_mut_ptr(),
+            c.len(),
+            d.as_mut_ptr(),
+            d.len(),
+            &mut steps,
+            &mut size,
+            &mut place,
+            &mut checked,
+            &mut own_number,
+            &mut own_steps,
+            &mut own_size,
+            &mut own_place,
+        )
+    };
+    EndedChecked {
+        unfolded: Ended {
+            number,
+            steps,
+            size,
+            place,
+        },
+        checked,
+        own_number,
+        own_steps,
+        own_size,
+        own_place,
+    }
+}
+
+/// Copies the plan reached out of area A or B, zeros behind: 0; or 1 with every lent byte
+/// kept, where the plan area is too short.
+pub fn reached(a: &[u8], b: &[u8], steps: usize, size: usize, plan_area: &mut [u8]) -> Handed {
+    let mut copied = NOT_SET;
+    // SAFETY: see the head of this file.
+    let number = unsafe {
+        archive::aberulwy_reached(
+            a.as_ptr(),
+            a.len(),
+            b.as_ptr(),
+            b.len(),
+            steps,
+            size,
+            plan_area.as_mut_ptr(),
+            plan_area.len(),
+            &mut copied,
+        )
+    };
+    Handed {
+        number,
+        size: copied,
+    }
+}
+
 /// Checks a rewriting: 0, or 31 to 33; or 1 to 8, 11 to 18 with every lent byte kept.
 pub fn check(
     tables: &[u8],
@@ -288,4 +440,21 @@ pub fn read_station(file: &[u8], tables_area: &mut [u8], plan_area: &mut [u8]) -
         value,
         place,
     }
+}
+
+/// Lists a station file, zeros behind: 0; or 1 with every lent byte kept, where the area is
+/// too short.
+pub fn list_station(file: &[u8], out: &mut [u8]) -> Handed {
+    let mut size = NOT_SET;
+    // SAFETY: see the head of this file.
+    let number = unsafe {
+        archive::aberulwy_list_station(
+            file.as_ptr(),
+            file.len(),
+            out.as_mut_ptr(),
+            out.len(),
+            &mut size,
+        )
+    };
+    Handed { number, size }
 }

@@ -23,3 +23,18 @@ pub fn read_station(
 ) -> Result<usize, Refusal> {
     counted(raw::read_station(file, tables_area, plan_area))
 }
+
+/// Lists a station file: everything that the program prints for it, refusals too, as text at
+/// the beginning of the area, zeros behind. None where the area is too short, which then keeps
+/// its bytes; one of [`LONGEST_LISTING`](crate::LONGEST_LISTING) bytes never is.
+///
+/// ```
+/// let mut out = [7; 20];
+/// assert_eq!(aberulwy::list_station(b"", &mut out), Some(&b"refused 51 0\n"[..]));
+/// assert_eq!(out[13..], [0; 7]);
+/// assert_eq!(aberulwy::list_station(b"", &mut out[..12]), None);
+/// ```
+pub fn list_station<'t>(file: &[u8], out: &'t mut [u8]) -> Option<&'t [u8]> {
+    let handed = raw::list_station(file, out);
+    (handed.number == 0).then(|| &out[..handed.size])
+}

@@ -1,5 +1,6 @@
 //! The unfolding.
 
+use crate::checking::{checked, Checked};
 use crate::{raw, reached, Refusal, RECORD};
 
 /// How an unfolding ended.
@@ -94,7 +95,11 @@ pub fn unfold(
     a: &mut [u8],
     b: &mut [u8],
 ) -> Result<Unfolded, Refusal> {
-    let answer = raw::unfold(tables, plan, allowance, list, a, b);
+    unfolded(raw::unfold(tables, plan, allowance, list, a, b))
+}
+
+/// The named answer of an unfolding.
+fn unfolded(answer: raw::Ended) -> Result<Unfolded, Refusal> {
     let ending = match answer.number {
         0 => Ending::Finished,
         34 => Ending::AllowanceSpent,
@@ -107,4 +112,84 @@ pub fn unfold(
         steps: answer.steps,
         size: answer.size,
     })
+}
+
+/// An unfolding that was not refused, and the check of its own rewriting.
+#[derive(Clone, Copy, Debug, PartialEq, Eq, Hash)]
+pub struct UnfoldedChecked {
+    /// The unfolding.
+    pub unfolded: Unfolded,
+    /// The check of its own rewriting, from the given plan to the plan reached. It is refused
+    /// (15) where its areas can't hold the given plan.
+    pub own: Result<Checked, Refusal>,
+}
+
+/// Unfolds a plan as [`unfold`] does in areas A and B, and then checks the unfolding's own
+/// rewriting as [`check`](crate::check) does, in two further areas. Where these are as long as
+/// A and B, the check accepts: that is proved.
+///
+/// # Errors
+///
+/// As for [`unfold`]. Nothing is checked then, and the list and all four areas keep their
+/// bytes.
+///
+/// ```
+/// use aberulwy::{unfold_checked, Verdict};
+///
+/// let tables = aberulwy::examples::trial_tables();
+/// let plan = [1, 2, 66, 80];
+/// let (mut list, mut a, mut b) = ([0; 300], [0; 64], [0; 64]);
+/// let (mut c, mut d) = ([0; 64], [0; 64]);
+/// let areas = [&mut a[..], &mut b[..]];
+/// let both = unfold_checked(&tables, &plan, 9, &mut list, areas, [&mut c, &mut d])?;
+/// let own = both.own?;
+/// assert!(own.accepted());
+/// assert_eq!((own.steps, own.size), (both.unfolded.steps, both.unfolded.size));
+/// assert_eq!(own.reached(&c, &d), both.unfolded.reached(&a, &b));
+///
+/// // In areas of 11 bytes the first step's plan doesn't fit.
+/// let areas = [&mut a[..], &mut b[..]];
+/// let both = unfold_checked(&tables, &plan, 9, &mut list, areas, [&mut c[..11], &mut d])?;
+/// assert_eq!(both.own?.verdict, Verdict::TooLong);
+/// # Ok::<(), aberulwy::Refusal>(())
+/// ```
+pub fn unfold_checked(
+    tables: &[u8],
+    plan: &[u8],
+    allowance: u32,
+    list: &mut [u8],
+    areas: [&mut [u8]; 2],
+    check_areas: [&mut [u8]; 2],
+) -> Result<UnfoldedChecked, Refusal> {
+    let answer = raw::unfold_checked(tables, plan, allowance, list, areas, check_areas);
+    let unfolded = unfolded(answer.unfolded)?;
+    let own = checked(raw::Ended {
+        number: answer.own_number as u8,
+        steps: answer.own_steps,
+        size: answer.own_size,
+        place: answer.own_place,
+    });
+    Ok(UnfoldedChecked { unfolded, own })
+}
+
+/// Copies the plan reached, after so many steps and of so many words, out of area A or B into
+/// another area, zeros behind. None where that area is too short, which then keeps its bytes.
+/// An area of fewer words is copied whole. [`Unfolded::reached`] hands out the part itself.
+///
+/// ```
+/// let (a, b) = ([1, 2, 64, 0], [3, 0, 0, 0]);
+/// let mut plan = [7; 5];
+/// assert_eq!(aberulwy::copy_reached(&a, &b, 2, 3, &mut plan), Some(&[1, 2, 64][..]));
+/// assert_eq!(plan, [1, 2, 64, 0, 0]);
+/// assert_eq!(aberulwy::copy_reached(&a, &b, 1, 1, &mut []), None);
+/// ```
+pub fn copy_reached<'t>(
+    a: &[u8],
+    b: &[u8],
+    steps: usize,
+    size: usize,
+    plan_area: &'t mut [u8],
+) -> Option<&'t [u8]> {
+    let handed = raw::reached(a, b, steps, size, plan_area);
+    (handed.number == 0).then(|| &plan_area[..handed.size])
 }

@@ -86,3 +86,52 @@ fn refusals_keep_the_lent_bytes() {
     assert_eq!((refusal.number(), refusal.place()), (17, Place::Step(1)));
     assert_eq!((list, a, b), ([7; 9], [7; 2], [7; 9]));
 }
+
+#[test]
+fn unfolded_and_checked() {
+    let (mut list, mut a, mut b) = ([7; 300], [7; 64], [7; 65]);
+    let (mut c, mut d) = ([9; 64], [9; 65]);
+    let tables = trial_tables();
+    let plan = [1, 2, 66, 80];
+    for allowance in [0, 1, 9, 17, 18] {
+        let areas = [&mut a[..], &mut b[..]];
+        let both = unfold_checked(
+            &tables,
+            &plan,
+            allowance,
+            &mut list,
+            areas,
+            [&mut c, &mut d],
+        );
+        let both = both.unwrap();
+        assert_eq!(both.unfolded.steps, 17.min(allowance as usize));
+        let own = both.own.unwrap();
+        assert!(own.accepted());
+        assert_eq!(
+            (own.steps, own.size),
+            (both.unfolded.steps, both.unfolded.size)
+        );
+        assert_eq!((a, b), (c, d));
+        let mut copy = [7; 64];
+        let (steps, size) = (own.steps, own.size);
+        let copied = copy_reached(&a, &b, steps, size, &mut copy).unwrap();
+        assert_eq!(copied, both.unfolded.reached(&a, &b));
+    }
+    let (before_a, before_c) = (a, c);
+    let areas = [&mut a[..3], &mut b[..]];
+    let refused = unfold_checked(&tables, &plan, 9, &mut list, areas, [&mut c, &mut d]);
+    assert_eq!(refused.unwrap_err().number(), 15);
+    assert_eq!((a, c), (before_a, before_c));
+}
+
+#[test]
+fn the_listing_of_case_1() {
+    let file = include_bytes!("../../../examples/trays/tray-1.station");
+    let text = include_bytes!("../../../examples/trays/tray-1.txt");
+    let mut out = vec![7; LONGEST_LISTING];
+    assert_eq!(list_station(file, &mut out), Some(&text[..]));
+    assert!(out[text.len()..].iter().all(|&byte| byte == 0));
+    let mut short = vec![7; text.len() - 1];
+    assert_eq!(list_station(file, &mut short), None);
+    assert!(short.iter().all(|&byte| byte == 7));
+}
