@@ -3,13 +3,14 @@
 use crate::implementation::{Answer, Implementation};
 use reference::plans::{judge_plan, operands, LONGEST_PLAN};
 use reference::random::cases::{
-    check_case, own_rewriting_case, station_case, tables_and_plan, unfold_case_of, CheckCase,
-    StationCase, UnfoldCase,
+    check_case, own_rewriting_case, station_case, station_file, tables_and_plan, unfold_case_of,
+    CheckCase, StationCase, UnfoldCase,
 };
 use reference::random::plans::{basic_plan, plan};
 use reference::random::rewritings::{damage_rewriting, derivation};
 use reference::random::tables::{damaged_tables, lawful_tables};
 use reference::random::Random;
+use reference::stations::program;
 
 /// One call, with everything handed to it.
 #[derive(Clone, Debug)]
@@ -28,6 +29,47 @@ pub enum Case {
     Check(CheckCase),
     /// A station file to read.
     ReadStation(StationCase),
+    /// An unfolding whose own rewriting is checked.
+    UnfoldChecked(CheckedCase),
+    /// A plan reached to copy.
+    Reached(ReachedCase),
+    /// A station file to list.
+    ListStation(ListCase),
+}
+
+/// What is handed to the unfolding with a check.
+#[derive(Clone, Debug)]
+pub struct CheckedCase {
+    /// What the unfolding is handed.
+    pub unfolding: UnfoldCase,
+    /// The checker's area A, with the bytes it has before.
+    pub c: Vec<u8>,
+    /// The checker's area B, with the bytes it has before.
+    pub d: Vec<u8>,
+}
+
+/// What is handed to the call that copies the plan reached.
+#[derive(Clone, Debug)]
+pub struct ReachedCase {
+    /// Area A.
+    pub a: Vec<u8>,
+    /// Area B.
+    pub b: Vec<u8>,
+    /// The steps made.
+    pub steps: usize,
+    /// The words of the plan reached.
+    pub size: usize,
+    /// The area for the copy, with the bytes it has before.
+    pub plan: Vec<u8>,
+}
+
+/// What is handed to the listing.
+#[derive(Clone, Debug)]
+pub struct ListCase {
+    /// The file.
+    pub file: Vec<u8>,
+    /// The area for the listing, with the bytes it has before.
+    pub out: Vec<u8>,
 }
 
 /// What a call answers, and every lent byte afterwards.
@@ -42,6 +84,10 @@ pub struct Outcome {
 /// Plans of more words than this come in a small share of the cases: they are slow to draw and
 /// to run.
 const SHORT: usize = 40;
+/// Plans of at most so many words are soon unfolded, even by the reference.
+const SOON_UNFOLDED: usize = 9;
+/// The words of the longest plan that the program takes; files with a longer one are refused.
+const LONGEST_LISTED: usize = 8192;
 /// Once in so many cases the plan is a long one.
 const LONG_ONCE_IN: usize = 32;
 
@@ -49,7 +95,7 @@ impl Case {
     /// The case of this seed.
     pub fn draw(seed: u64) -> Case {
         let random = &mut Random::new(seed);
-        match random.below(16) {
+        match random.below(20) {
             0 => Case::JudgeTables(any_tables(random)),
             1 | 2 => {
                 let (tables, plan) = handed_in(random);
@@ -72,7 +118,10 @@ impl Case {
                 }
             }
             10..=13 => Case::Check(any_check(random)),
-            _ => Case::ReadStation(any_station(random)),
+            14 | 15 => Case::ReadStation(any_station(random)),
+            16 | 17 => Case::UnfoldChecked(any_checked(random)),
+            18 => Case::Reached(any_reached(random)),
+            _ => Case::ListStation(any_listing(random)),
         }
     }
 
@@ -98,6 +147,18 @@ impl Case {
             (Case::ReadStation(case), [tables, plan]) => {
                 implementation.read_station(&case.file, tables, plan)
             }
+            (Case::UnfoldChecked(case), [list, a, b, c, d]) => implementation.unfold_checked(
+                &case.unfolding.tables,
+                &case.unfolding.plan,
+                case.unfolding.allowance,
+                list,
+                [a, b],
+                [c, d],
+            ),
+            (Case::Reached(case), [plan]) => {
+                implementation.reached(&case.a, &case.b, case.steps, case.size, plan)
+            }
+            (Case::ListStation(case), [out]) => implementation.list_station(&case.file, out),
             _ => unreachable!("each case lends what its call takes"),
         };
         Outcome { answer, lent }
@@ -109,6 +170,18 @@ impl Case {
             Case::Unfold(case) => vec![&case.list, &case.a, &case.b],
             Case::Check(case) => vec![&case.a, &case.b],
             Case::ReadStation(case) => vec![&case.tables, &case.plan],
+            Case::UnfoldChecked(case) => {
+                let unfolding = &case.unfolding;
+                vec![
+                    &unfolding.list,
+                    &unfolding.a,
+                    &unfolding.b,
+                    &case.c,
+                    &case.d,
+                ]
+            }
+            Case::Reached(case) => vec![&case.plan],
+            Case::ListStation(case) => vec![&case.out],
             _ => Vec::new(),
         }
     }
@@ -127,7 +200,7 @@ fn handed_in(random: &mut Random) -> (Vec<u8>, Vec<u8>) {
     if random.once_in(LONG_ONCE_IN) {
         return with_long_plan(random);
     }
-    pass_by_long_plans(random);
+    pass_by_plans_above(random, SHORT);
     tables_and_plan(random)
 }
 
@@ -144,9 +217,9 @@ fn with_long_plan(random: &mut Random) -> (Vec<u8>, Vec<u8>) {
     (tables, plan)
 }
 
-/// Lets numbers go by until the next plan drawn is short.
-fn pass_by_long_plans(random: &mut Random) {
-    while tables_and_plan(&mut random.clone()).1.len() > SHORT {
+/// Lets numbers go by until the next plan drawn has at most so many words.
+fn pass_by_plans_above(random: &mut Random, words: usize) {
+    while tables_and_plan(&mut random.clone()).1.len() > words {
         random.number();
     }
 }
@@ -160,7 +233,7 @@ fn any_check(random: &mut Random) -> CheckCase {
     if random.once_in(LONG_ONCE_IN) {
         return long_check(random);
     }
-    pass_by_long_plans(random);
+    pass_by_plans_above(random, SHORT);
     check_case(random)
 }
 
@@ -189,9 +262,67 @@ fn long_check(random: &mut Random) -> CheckCase {
 
 fn any_station(random: &mut Random) -> StationCase {
     if !random.once_in(LONG_ONCE_IN) {
-        pass_by_long_plans(random);
+        pass_by_plans_above(random, SHORT);
     }
     station_case(random)
+}
+
+/// An unfolding, and areas for the check that are mostly as long as its own.
+fn any_checked(random: &mut Random) -> CheckedCase {
+    let unfolding = any_unfolding(random);
+    let (words, a, b) = (unfolding.plan.len(), unfolding.a.len(), unfolding.b.len());
+    let (c, d) = match random.below(3) {
+        0 => (random.near(a, &[0, words]), random.near(b, &[0, words])),
+        _ => (a, b),
+    };
+    CheckedCase {
+        unfolding,
+        c: random.lent(c),
+        d: random.lent(d),
+    }
+}
+
+/// Two areas with anything in them, and an area close to the part that is copied.
+fn any_reached(random: &mut Random) -> ReachedCase {
+    let (a, b) = (random.below(40), random.below(40));
+    let any = random.number() as usize;
+    let steps = random.pick(&[0, 1, 2, 3, usize::MAX, any]);
+    let area = if steps.is_multiple_of(2) { a } else { b };
+    let most = random.below(area + 1);
+    let size = random.near(most, &[0, area, usize::MAX, any]);
+    let plan = random.near(size.min(area), &[0, 1, area, 41]);
+    let (mut a, mut b) = (vec![0; a], vec![0; b]);
+    a.fill_with(|| random.byte());
+    b.fill_with(|| random.byte());
+    ReachedCase {
+        a,
+        b,
+        steps,
+        size,
+        plan: random.lent(plan),
+    }
+}
+
+/// A station file, mostly of a plan that is soon unfolded, and an area close to its listing.
+fn any_listing(random: &mut Random) -> ListCase {
+    let most = if random.once_in(8 * LONG_ONCE_IN) {
+        SHORT
+    } else {
+        SOON_UNFOLDED
+    };
+    let file = loop {
+        pass_by_plans_above(random, most);
+        let (file, words) = station_file(random);
+        if words <= most || words > LONGEST_LISTED {
+            break file;
+        }
+    };
+    let text = program(&file).len();
+    let out = random.near(text, &[0, 1, 93_000]);
+    ListCase {
+        file,
+        out: random.lent(out),
+    }
 }
 
 /// Any tables and plan, or lawful tables and a plan that is basic or differs from a basic one

@@ -1,16 +1,20 @@
-//! What is compared: an implementation's seven calls.
+//! What is compared: an implementation's calls.
 
-use reference::{checking, plans, stations, tables, unfolding, Refusal};
+use reference::{checking, own, plans, runs, stations, tables, unfolding, Refusal};
 
 /// What a call answers: every number that it sets.
 #[derive(Clone, Copy, Debug, PartialEq, Eq)]
 pub struct Answer {
-    /// 0, or the number of the refusal or of the ending.
+    /// 0, or the number of the refusal or of the ending; of a call that hands bytes over, 0,
+    /// or 1 where the area is too short.
     pub number: u8,
     /// Steps and size; or the one number asked for, then 0; 0 where refused.
     pub values: [usize; 2],
     /// The printed place; 0 where none is named.
     pub place: usize,
+    /// Of an unfolding with a check: whether the check was made, and its number, steps, size
+    /// and place; 0 where none was made, and in every other call.
+    pub own: [usize; 5],
 }
 
 impl Answer {
@@ -20,6 +24,7 @@ impl Answer {
             number: refusal.number,
             values: [0, 0],
             place: refusal.printed(),
+            own: [0; 5],
         }
     }
 
@@ -29,7 +34,28 @@ impl Answer {
             number,
             values,
             place: 0,
+            own: [0; 5],
         }
+    }
+
+    /// Bytes handed over, or an area that is too short.
+    fn handed(size: Option<usize>) -> Answer {
+        match size {
+            Some(size) => Answer::ended(0, [size, 0]),
+            None => Answer::ended(1, [0, 0]),
+        }
+    }
+
+    /// An unfolding's answer, with that of the check where one was made.
+    fn with_own(self, own: Option<Answer>) -> Answer {
+        let own = match own {
+            Some(check) => {
+                let [steps, size] = check.values;
+                [1, check.number as usize, steps, size, check.place]
+            }
+            None => [0; 5],
+        };
+        Answer { own, ..self }
     }
 
     /// One number, or a refusal.
@@ -68,7 +94,7 @@ impl From<checking::Answer> for Answer {
     }
 }
 
-/// The seven calls. Each may change the mutable slices alone.
+/// The calls. Each may change the mutable slices alone.
 pub trait Implementation {
     /// Judges tables.
     fn judge_tables(&self, tables: &[u8]) -> Answer;
@@ -93,6 +119,28 @@ pub trait Implementation {
         b: &mut [u8],
     ) -> Answer;
 
+    /// Unfolds a plan, then checks its own rewriting in two further areas; answers what both
+    /// calls do.
+    fn unfold_checked(
+        &self,
+        tables: &[u8],
+        plan: &[u8],
+        allowance: u32,
+        list: &mut [u8],
+        areas: [&mut [u8]; 2],
+        check_areas: [&mut [u8]; 2],
+    ) -> Answer;
+
+    /// Copies the plan reached into an area; answers its size.
+    fn reached(
+        &self,
+        a: &[u8],
+        b: &[u8],
+        steps: usize,
+        size: usize,
+        plan_area: &mut [u8],
+    ) -> Answer;
+
     /// Checks a rewriting; answers steps and size.
     fn check(
         &self,
@@ -106,6 +154,9 @@ pub trait Implementation {
 
     /// Reads a station file; answers the plan's size.
     fn read_station(&self, file: &[u8], tables_area: &mut [u8], plan_area: &mut [u8]) -> Answer;
+
+    /// Lists a station file in an area; answers the listing's size.
+    fn list_station(&self, file: &[u8], out: &mut [u8]) -> Answer;
 }
 
 /// The second implementation, written for comparison.
@@ -156,6 +207,40 @@ impl Implementation for Reference {
     fn read_station(&self, file: &[u8], tables_area: &mut [u8], plan_area: &mut [u8]) -> Answer {
         Answer::counted(stations::read_station(file, tables_area, plan_area))
     }
+
+    fn unfold_checked(
+        &self,
+        tables: &[u8],
+        plan: &[u8],
+        allowance: u32,
+        list: &mut [u8],
+        areas: [&mut [u8]; 2],
+        check_areas: [&mut [u8]; 2],
+    ) -> Answer {
+        let (unfolded, own) =
+            own::unfold_checked(tables, plan, allowance, list, areas, check_areas);
+        Answer::from(unfolded).with_own(own.map(Answer::from))
+    }
+
+    fn reached(
+        &self,
+        a: &[u8],
+        b: &[u8],
+        steps: usize,
+        size: usize,
+        plan_area: &mut [u8],
+    ) -> Answer {
+        let reached = runs::reached(a, b, steps, size);
+        let fits = reached.len() <= plan_area.len();
+        if fits {
+            runs::set(plan_area, reached);
+        }
+        Answer::handed(fits.then_some(reached.len()))
+    }
+
+    fn list_station(&self, file: &[u8], out: &mut [u8]) -> Answer {
+        Answer::handed(stations::list_station(file, out))
+    }
 }
 
 /// The proved library.
@@ -170,6 +255,7 @@ impl From<aberulwy::raw::Judged> for Answer {
             number: judged.number,
             values: [0, 0],
             place: judged.place,
+            own: [0; 5],
         }
     }
 }
@@ -181,6 +267,7 @@ impl From<aberulwy::raw::Counted> for Answer {
             number: counted.number,
             values: [counted.value, 0],
             place: counted.place,
+            own: [0; 5],
         }
     }
 }
@@ -192,7 +279,31 @@ impl From<aberulwy::raw::Ended> for Answer {
             number: ended.number,
             values: [ended.steps, ended.size],
             place: ended.place,
+            own: [0; 5],
         }
+    }
+}
+
+#[cfg(feature = "archive")]
+impl From<aberulwy::raw::EndedChecked> for Answer {
+    fn from(both: aberulwy::raw::EndedChecked) -> Answer {
+        Answer {
+            own: [
+                both.checked,
+                both.own_number,
+                both.own_steps,
+                both.own_size,
+                both.own_place,
+            ],
+            ..both.unfolded.into()
+        }
+    }
+}
+
+#[cfg(feature = "archive")]
+impl From<aberulwy::raw::Handed> for Answer {
+    fn from(handed: aberulwy::raw::Handed) -> Answer {
+        Answer::ended(handed.number, [handed.size, 0])
     }
 }
 
@@ -240,5 +351,32 @@ impl Implementation for Proved {
 
     fn read_station(&self, file: &[u8], tables_area: &mut [u8], plan_area: &mut [u8]) -> Answer {
         aberulwy::raw::read_station(file, tables_area, plan_area).into()
+    }
+
+    fn unfold_checked(
+        &self,
+        tables: &[u8],
+        plan: &[u8],
+        allowance: u32,
+        list: &mut [u8],
+        areas: [&mut [u8]; 2],
+        check_areas: [&mut [u8]; 2],
+    ) -> Answer {
+        aberulwy::raw::unfold_checked(tables, plan, allowance, list, areas, check_areas).into()
+    }
+
+    fn reached(
+        &self,
+        a: &[u8],
+        b: &[u8],
+        steps: usize,
+        size: usize,
+        plan_area: &mut [u8],
+    ) -> Answer {
+        aberulwy::raw::reached(a, b, steps, size, plan_area).into()
+    }
+
+    fn list_station(&self, file: &[u8], out: &mut [u8]) -> Answer {
+        aberulwy::raw::list_station(file, out).into()
     }
 }

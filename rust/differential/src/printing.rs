@@ -2,6 +2,7 @@
 
 use crate::cases::{Case, Outcome};
 use crate::compare::{Agreement, Difference};
+use reference::random::cases::UnfoldCase;
 use std::fmt;
 
 /// Bytes: as they are, or in short where there are many and all are the same.
@@ -42,13 +43,7 @@ impl fmt::Display for Case {
             Case::JudgePlan(tables, plan) => judged(f, "judge_plan", tables, plan),
             Case::IsBasic(tables, plan) => judged(f, "is_basic", tables, plan),
             Case::CountOrders(tables, plan) => judged(f, "count_orders", tables, plan),
-            Case::Unfold(case) => {
-                judged(f, "unfold", &case.tables, &case.plan)?;
-                writeln!(f, "  allowance: {}", case.allowance)?;
-                writeln!(f, "  list: {}", Bytes(&case.list))?;
-                writeln!(f, "  a: {}", Bytes(&case.a))?;
-                writeln!(f, "  b: {}", Bytes(&case.b))
-            }
+            Case::Unfold(case) => unfolding(f, "unfold", case),
             Case::Check(case) => {
                 judged(f, "check", &case.tables, &case.start)?;
                 writeln!(f, "  claimed: {}", Bytes(&case.claimed))?;
@@ -62,8 +57,33 @@ impl fmt::Display for Case {
                 writeln!(f, "  tables area: {}", Bytes(&case.tables))?;
                 writeln!(f, "  plan area: {}", Bytes(&case.plan))
             }
+            Case::UnfoldChecked(case) => {
+                unfolding(f, "unfold_checked", &case.unfolding)?;
+                writeln!(f, "  c: {}", Bytes(&case.c))?;
+                writeln!(f, "  d: {}", Bytes(&case.d))
+            }
+            Case::Reached(case) => {
+                writeln!(f, "reached")?;
+                writeln!(f, "  a: {}", Bytes(&case.a))?;
+                writeln!(f, "  b: {}", Bytes(&case.b))?;
+                writeln!(f, "  steps: {}, size: {}", case.steps, case.size)?;
+                writeln!(f, "  plan area: {}", Bytes(&case.plan))
+            }
+            Case::ListStation(case) => {
+                writeln!(f, "list_station")?;
+                writeln!(f, "  file: {}", Sparse(&case.file))?;
+                writeln!(f, "  out: {}", Bytes(&case.out))
+            }
         }
     }
+}
+
+fn unfolding(f: &mut fmt::Formatter<'_>, call: &str, case: &UnfoldCase) -> fmt::Result {
+    judged(f, call, &case.tables, &case.plan)?;
+    writeln!(f, "  allowance: {}", case.allowance)?;
+    writeln!(f, "  list: {}", Bytes(&case.list))?;
+    writeln!(f, "  a: {}", Bytes(&case.a))?;
+    writeln!(f, "  b: {}", Bytes(&case.b))
 }
 
 fn judged(f: &mut fmt::Formatter<'_>, call: &str, tables: &[u8], plan: &[u8]) -> fmt::Result {
@@ -80,6 +100,9 @@ impl fmt::Display for Outcome {
             "number {number}, values {:?}, place {place}",
             self.answer.values
         )?;
+        if self.answer.own != [0; 5] {
+            write!(f, ", own {:?}", self.answer.own)?;
+        }
         for lent in &self.lent {
             write!(f, "\n    {}", Bytes(lent))?;
         }

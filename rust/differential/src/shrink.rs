@@ -1,6 +1,6 @@
 //! Making a case smaller while it keeps what makes it interesting.
 
-use crate::cases::Case;
+use crate::cases::{Case, CheckedCase, ListCase, ReachedCase};
 use reference::plans::{judge, operands, subplan};
 use reference::random::cases::{CheckCase, StationCase, UnfoldCase};
 use reference::stations::{read_station, write_station};
@@ -37,9 +37,12 @@ fn smaller(case: &Case) -> Vec<Case> {
         Case::JudgePlan(tables, plan) => smaller_judged(tables, plan, Case::JudgePlan),
         Case::IsBasic(tables, plan) => smaller_judged(tables, plan, Case::IsBasic),
         Case::CountOrders(tables, plan) => smaller_judged(tables, plan, Case::CountOrders),
-        Case::Unfold(case) => smaller_unfoldings(case),
+        Case::Unfold(case) => each(smaller_unfoldings(case), Case::Unfold),
         Case::Check(case) => smaller_checks(case),
         Case::ReadStation(case) => smaller_stations(case),
+        Case::UnfoldChecked(case) => smaller_checked(case),
+        Case::Reached(case) => smaller_reached(case),
+        Case::ListStation(case) => smaller_listings(case),
     };
     found.retain(|case| weight(case) < size);
     found
@@ -56,16 +59,27 @@ fn weight(case: &Case) -> u64 {
         Case::JudgePlan(tables, plan)
         | Case::IsBasic(tables, plan)
         | Case::CountOrders(tables, plan) => bytes(&[tables, plan]),
-        Case::Unfold(case) => {
-            let lent = unlike(&[&case.list, &case.a, &case.b]);
-            bytes(&[&case.tables, &case.plan]) + lent + case.allowance as u64
-        }
+        Case::Unfold(case) => unfolding_weight(case),
         Case::Check(case) => {
             let handed_in = bytes(&[&case.tables, &case.start, &case.claimed, &case.rewriting]);
             handed_in + unlike(&[&case.a, &case.b])
         }
         Case::ReadStation(case) => bytes(&[&case.file]) + unlike(&[&case.tables, &case.plan]),
+        Case::UnfoldChecked(case) => {
+            unfolding_weight(&case.unfolding) + unlike(&[&case.c, &case.d])
+        }
+        Case::Reached(case) => {
+            let numbers = (case.steps as u64 / 4).saturating_add(case.size as u64 / 4);
+            numbers + bytes(&[&case.a, &case.b]) + unlike(&[&case.plan])
+        }
+        Case::ListStation(case) => bytes(&[&case.file]) + unlike(&[&case.out]),
     }
+}
+
+fn unfolding_weight(case: &UnfoldCase) -> u64 {
+    let bytes = [&case.tables, &case.plan].map(|slice| 4 * slice.len() + set(slice));
+    let lent = unlike(&[&case.list, &case.a, &case.b]);
+    bytes.iter().sum::<usize>() as u64 + lent + case.allowance as u64
 }
 
 /// How many bytes are not zero.
@@ -96,11 +110,11 @@ fn smaller_judged(
     found
 }
 
-fn smaller_unfoldings(case: &UnfoldCase) -> Vec<Case> {
+fn smaller_unfoldings(case: &UnfoldCase) -> Vec<UnfoldCase> {
     let with = |change: &dyn Fn(&mut UnfoldCase)| {
         let mut case = case.clone();
         change(&mut case);
-        Case::Unfold(case)
+        case
     };
     let mut found = Vec::new();
     for plan in smaller_plans(&case.plan) {
@@ -120,6 +134,66 @@ fn smaller_unfoldings(case: &UnfoldCase) -> Vec<Case> {
     }
     for tables in smaller_tables(&case.tables) {
         found.push(with(&|case| case.tables = tables.clone()));
+    }
+    found
+}
+
+fn smaller_checked(case: &CheckedCase) -> Vec<Case> {
+    let with = |change: &dyn Fn(&mut CheckedCase)| {
+        let mut case = case.clone();
+        change(&mut case);
+        Case::UnfoldChecked(case)
+    };
+    let mut found = Vec::new();
+    for unfolding in smaller_unfoldings(&case.unfolding) {
+        found.push(with(&|case| case.unfolding = unfolding.clone()));
+    }
+    for c in smaller_lent(&case.c) {
+        found.push(with(&|case| case.c = c.clone()));
+    }
+    for d in smaller_lent(&case.d) {
+        found.push(with(&|case| case.d = d.clone()));
+    }
+    found
+}
+
+fn smaller_reached(case: &ReachedCase) -> Vec<Case> {
+    let with = |change: &dyn Fn(&mut ReachedCase)| {
+        let mut case = case.clone();
+        change(&mut case);
+        Case::Reached(case)
+    };
+    let mut found = Vec::new();
+    for steps in smaller_numbers(case.steps) {
+        found.push(with(&|case| case.steps = steps));
+    }
+    for size in smaller_numbers(case.size) {
+        found.push(with(&|case| case.size = size));
+    }
+    for length in smaller_numbers(case.a.len()) {
+        found.push(with(&|case| case.a.truncate(length)));
+    }
+    for length in smaller_numbers(case.b.len()) {
+        found.push(with(&|case| case.b.truncate(length)));
+    }
+    for plan in smaller_lent(&case.plan) {
+        found.push(with(&|case| case.plan = plan.clone()));
+    }
+    found
+}
+
+fn smaller_listings(case: &ListCase) -> Vec<Case> {
+    let with = |change: &dyn Fn(&mut ListCase)| {
+        let mut case = case.clone();
+        change(&mut case);
+        Case::ListStation(case)
+    };
+    let mut found = Vec::new();
+    for file in smaller_files(&case.file) {
+        found.push(with(&|case| case.file = file.clone()));
+    }
+    for out in smaller_lent(&case.out) {
+        found.push(with(&|case| case.out = out.clone()));
     }
     found
 }

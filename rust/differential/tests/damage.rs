@@ -49,11 +49,25 @@ enum Damage {
     Sum,
     /// The plan area is not cleared behind the plan.
     PlanFilling,
+    /// The check of an unfolding's own rewriting is said to be made always.
+    CheckMade,
+    /// That check has one step more.
+    OwnSteps,
+    /// The checker's last byte of area B is not set to 0.
+    OwnFilling,
+    /// The plan reached is in area A after an odd number of steps.
+    Parity,
+    /// An area of exactly the plan's size is too short for it.
+    CopyRoom,
+    /// The listing needs one byte more.
+    ListRoom,
+    /// The area is not cleared behind the listing.
+    ListFilling,
 }
 
 use Damage::*;
 
-const ALL: [Damage; 20] = [
+const ALL: [Damage; 27] = [
     MostActions,
     TripleWeight,
     LongestPlan,
@@ -74,6 +88,13 @@ const ALL: [Damage; 20] = [
     MostBlocks,
     Sum,
     PlanFilling,
+    CheckMade,
+    OwnSteps,
+    OwnFilling,
+    Parity,
+    CopyRoom,
+    ListRoom,
+    ListFilling,
 ];
 
 /// The reference with damage.
@@ -120,9 +141,8 @@ impl Implementation for Damaged {
         match self.0 {
             LongestPlan if answer.number == 0 && plan.len() == 16_384 => refusal(11),
             LastSign if answer.number == 0 && plan == [plan[0], 87] => Answer {
-                number: 13,
-                values: [0, 0],
                 place: 1,
+                ..refusal(13)
             },
             _ => answer,
         }
@@ -234,6 +254,62 @@ impl Implementation for Damaged {
                 let size = answer.values[0];
                 plan_area[size..].copy_from_slice(&before[size..]);
             }
+            _ => {}
+        }
+        answer
+    }
+
+    fn unfold_checked(
+        &self,
+        tables: &[u8],
+        plan: &[u8],
+        allowance: u32,
+        list: &mut [u8],
+        areas: [&mut [u8]; 2],
+        [c, d]: [&mut [u8]; 2],
+    ) -> Answer {
+        let last = d.last().copied();
+        let mut answer = Reference.unfold_checked(tables, plan, allowance, list, areas, [c, d]);
+        match (self.0, d.last_mut()) {
+            (CheckMade, _) => answer.own[0] = 1,
+            (OwnSteps, _) if answer.own[0] == 1 => answer.own[2] += 1,
+            (OwnFilling, Some(byte)) => *byte = last.unwrap_or(0),
+            _ => {}
+        }
+        answer
+    }
+
+    fn reached(
+        &self,
+        a: &[u8],
+        b: &[u8],
+        steps: usize,
+        size: usize,
+        plan_area: &mut [u8],
+    ) -> Answer {
+        let steps = match self.0 {
+            Parity => steps ^ 1,
+            _ => steps,
+        };
+        let before = plan_area.to_vec();
+        let answer = Reference.reached(a, b, steps, size, plan_area);
+        if self.0 == CopyRoom && answer.number == 0 && answer.values[0] == before.len() {
+            plan_area.copy_from_slice(&before);
+            return refusal(1);
+        }
+        answer
+    }
+
+    fn list_station(&self, file: &[u8], out: &mut [u8]) -> Answer {
+        let before = out.to_vec();
+        let answer = Reference.list_station(file, out);
+        let size = answer.values[0];
+        match self.0 {
+            ListRoom if size == before.len() => {
+                out.copy_from_slice(&before);
+                return refusal(1);
+            }
+            ListFilling if answer.number == 0 => out[size..].copy_from_slice(&before[size..]),
             _ => {}
         }
         answer
