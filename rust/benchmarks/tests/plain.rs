@@ -54,6 +54,33 @@ impl Implementation for Plain {
     fn read_station(&self, file: &[u8], tables_area: &mut [u8], plan_area: &mut [u8]) -> Answer {
         Reference.read_station(file, tables_area, plan_area)
     }
+
+    fn unfold_checked(
+        &self,
+        tables: &[u8],
+        plan: &[u8],
+        allowance: u32,
+        list: &mut [u8],
+        areas: [&mut [u8]; 2],
+        check_areas: [&mut [u8]; 2],
+    ) -> Answer {
+        Reference.unfold_checked(tables, plan, allowance, list, areas, check_areas)
+    }
+
+    fn reached(
+        &self,
+        a: &[u8],
+        b: &[u8],
+        steps: usize,
+        size: usize,
+        plan_area: &mut [u8],
+    ) -> Answer {
+        Reference.reached(a, b, steps, size, plan_area)
+    }
+
+    fn list_station(&self, file: &[u8], out: &mut [u8]) -> Answer {
+        Reference.list_station(file, out)
+    }
 }
 
 #[test]

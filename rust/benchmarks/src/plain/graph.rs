@@ -166,6 +166,11 @@ impl Graph {
         }
     }
 
+    /// Whether nothing is left to read: no law fits then.
+    pub fn all_read(&self) -> bool {
+        self.rest == LONGEST_PLAN
+    }
+
     /// A sign with its operands, which are the last terms read.
     fn root(&self, sign: u8) -> Root<Entry> {
         let q = self.stack[self.height - 1];

@@ -2,8 +2,8 @@
 //!
 //! The unfolding makes its steps on a graph of terms (`graph.rs`), in bursts: a burst ends when
 //! all is read, when no node more can be made, or when a step cannot be made, and the plan is
-//! then written out into a gap buffer (`gap.rs`). There the words are scanned from the front for
-//! the next step. No step: finished. A step that cannot be made: 34, 35 or 36. Else it is made,
+//! then written out into a gap buffer (`gap.rs`). All read: finished. Else the words are scanned
+//! from the front for the next step: a step that cannot be made is 34, 35 or 36, else it is made,
 //! and the next burst begins. The checker works on the gap buffer alone, and moves the gap to
 //! each step's place. Nothing is allocated.
 
@@ -39,7 +39,9 @@ pub fn unfold(
     let mut gap = Gap::load(plan);
     let mut records = Records::new(list, allowance as usize);
     let number = loop {
-        burst(tables, &mut gap, &mut records, room);
+        if burst(tables, &mut gap, &mut records, room) {
+            break 0;
+        }
         if let Some(number) = turn(tables, &mut gap, &mut records, room) {
             break number;
         }
@@ -53,12 +55,15 @@ pub fn unfold(
     }
 }
 
-/// Makes steps on a graph, as many as can be made on one.
-fn burst(tables: &[u8], gap: &mut Gap, records: &mut Records, room: usize) {
+/// Makes steps on a graph, as many as can be made on one; whether all is read there, so that no
+/// step is left.
+fn burst(tables: &[u8], gap: &mut Gap, records: &mut Records, room: usize) -> bool {
     let mut graph = Graph::empty();
     gap.hand_over(&mut graph);
     graph.walk(tables, records, room);
+    let finished = graph.all_read();
     gap.take_over(&mut graph);
+    finished
 }
 
 /// Makes the next step, or answers how the unfolding ends: 0, 34, 35 or 36.
