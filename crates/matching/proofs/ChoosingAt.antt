@@ -17,7 +17,7 @@ use Rattle.graph.proofs.Terms.{root-over}
 use Rattle.laws.specs.Laws.{laws, law-at, Condition, always, same-words, a-in-set, a-not-in-set, a-below-b, a-not-below-b, Binding, number, holds, build, rewrite}
 use Rattle.matching.specs.Check.{check-at}
 use Rattle.matching.specs.Choice.{else-law, first-law, laws-of}
-use Rattle.matching.specs.Slots.{Bound, FittedAt, fails-at, fits-at, MatchedRoot, holds-at, side-entries, ChosenAt, none-at, chosen-at, ChosenRoot, Slots, FineSlots, no-slots}
+use Rattle.matching.specs.Slots.{Bound, FittedAt, fails-at, fits-at, MatchedRoot, TriedAt, law-fails, law-fits, TriedRoot, holds-at, side-entries, ChosenAt, none-at, chosen-at, ChosenRoot, Slots, FineSlots, no-slots}
 use Rattle.matching.specs.declared.Range.{Range}
 use Rattle.matching.proofs.Table.{and-left, and-right, passes, passed}
 use Rattle.matching.proofs.Stack.{last}
@@ -66,11 +66,6 @@ all-well-at = refl
 pub few-actions : {t : Tables} {n : ℕ} → (n ≡ actions t) × Lawful t → n ≤ 31
 few-actions h = omega (arith, h .0, h .1 .well-formed .few-actions)
 
--- law k was tried: it fails, or it fits, and its right side as entries is written as the term that it gives
-data TriedAt (t : Tables) (k n : ℕ) (g : Graph) (slots : List ℕ) : Option Term → Bool → Type 0 where
-  fails : TriedAt t k n g slots none false
-  fits : (v : Term) → ToRead n g (side-entries t k slots) (words v) → TriedAt t k n g slots (some v) true
-
 module _ (t : Tables) (n : ℕ) (count : n ≡ actions t) (ok : Lawful t) (g : Graph) (k : ℕ) (low : 5 ≤ k) (high : k ≤ 32) (slots : List ℕ) where
   all : well-at k ≡ true
   all = let e : 5 + (k - 5) ≡ k = omega arith in rw e at (passed (λ j. well-at (5 + j)) 28 all-well-at (k - 5) (omega arith))
@@ -98,27 +93,34 @@ module _ (t : Tables) (n : ℕ) (count : n ≡ actions t) (ok : Lawful t) (g : G
 
   after : {o : Option Binding} {r : Bool} → FittedAt n g slots o r
       → TriedAt t k n g slots (and-then o (λ s. cond (holds t (law-at k .when) s) (some (build t s (law-at k .rhs))) none)) (r && holds-at (check-at k) t slots)
-  after fails-at = fails
+  after fails-at = law-fails
   after (fits-at s b) = go (holds t (law-at k .when) s) (rw (is-check k (omega arith) high) (holds-same t b (law-at k .when) is-told))
     where
       go : (v : Bool) → holds-at (check-at k) t slots ≡ v → TriedAt t k n g slots (cond v (some (build t s (law-at k .rhs))) none) (true && holds-at (check-at k) t slots)
-      go true e = rw e (fits _ (side-read s b))
-      go false e = rw e fails
+      go true e = rw e (law-fits _ (side-read s b))
+      go false e = rw e law-fails
 
-  module _ {w a b : ℕ} {v : Bool} (m : MatchedRoot n g k w a b slots v) (u : Term) (r : Root n g w a b u) where
-    tried : TriedAt t k n g slots (rewrite t (law-at k) u) (v && holds-at (check-at k) t slots)
+  -- its left side matched, and its condition asked where that fits
+  module _ {w a b : ℕ} {v : Bool} (m : MatchedRoot n g k w a b slots v) where
+    tried : TriedRoot t k n g w a b slots (v && holds-at (check-at k) t slots)
     unfolding rewrite
-    tried = after (m .matched u r)
+    tried = record { tried-root = λ u r. after (m .matched u r) }
+
+    pub law-unmatched : v ≡ false → TriedRoot t k n g w a b slots false
+    law-unmatched e = rw e at tried
+
+    pub law-matched : v ≡ true → {r : Bool} → r ≡ holds-at (check-at k) t slots → TriedRoot t k n g w a b slots r
+    law-matched e f = rw f (rw e at tried)
 
 -- what the answer says of a law that was tried
 module _ {t : Tables} {k n : ℕ} {g : Graph} {slots : List ℕ} where
   tried-none : {o : Option Term} {r : Bool} → TriedAt t k n g slots o r → r ≡ false → o ≡ none
-  tried-none fails q = refl
-  tried-none (fits v z) q = let y : _≡_ {A = ℕ} 0 1 = cc in absurd (omega arith)
+  tried-none law-fails q = refl
+  tried-none (law-fits v z) q = let y : _≡_ {A = ℕ} 0 1 = cc in absurd (omega arith)
 
   tried-some : {o : Option Term} {r : Bool} → TriedAt t k n g slots o r → r ≡ true → (v : Term) × (o ≡ some v) × ToRead n g (side-entries t k slots) (words v)
-  tried-some fails q = let y : _≡_ {A = ℕ} 0 1 = cc in absurd (omega arith)
-  tried-some (fits v z) q = (v, refl, z)
+  tried-some law-fails q = let y : _≡_ {A = ℕ} 0 1 = cc in absurd (omega arith)
+  tried-some (law-fits v z) q = (v, refl, z)
 
 root-last : {n : ℕ} {g : Graph} {w a b : ℕ} {u : Term} → Root n g w a b u → last u ≡ w
 root-last (root-one e k h) = sym e
@@ -137,32 +139,21 @@ opened t k h u l =
     let q : suc h - k ≡ suc (suc h - (k + 1)) = omega arith in
     rw (q, add-one k)
 
--- what matching and the condition say of a law
-pub missed : {v : Bool} (y : Bool) → v ≡ false → v && y ≡ false
-missed y e = rw e
-
-pub refused : (v : Bool) {y r : Bool} → r ≡ y → r ≡ false → v && y ≡ false
-refused true e f = sym e ∙ f
-refused false e f = refl
-
-pub met : {v y r : Bool} → v ≡ true → r ≡ y → r ≡ true → v && y ≡ true
-met h e f = rw h (sym e ∙ f)
-
 -- one law tried: the next is asked, or it is the one
-module _ {t : Tables} {n : ℕ} {g : Graph} {w a b k h : ℕ} (count : n ≡ actions t) (ok : Lawful t) (low : 5 ≤ k) (high : h ≤ 32) (here : k ≤ h)
-    (left : Left t n g w a b k h) {slots : List ℕ} {v : Bool} (m : MatchedRoot n g k w a b slots v) where
-  pub law-skipped : v && holds-at (check-at k) t slots ≡ false → Left t n g w a b (k + 1) h
+module _ {t : Tables} {n : ℕ} {g : Graph} {w a b k h : ℕ} (low : 5 ≤ k) (high : h ≤ 32) (here : k ≤ h) (left : Left t n g w a b k h)
+    {slots : List ℕ} {v : Bool} (m : TriedRoot t k n g w a b slots v) where
+  pub law-skipped : v ≡ false → Left t n g w a b (k + 1) h
   law-skipped e =
       record {
-        left = λ u r. sym (opened t k h u here ∙ ap (λ (o : Option Term). else-law o k (first-law t (k + 1) (suc h - (k + 1)) u)) (tried-none (tried t n count ok g k low (omega arith) slots m u r) e)) ∙ left .left u r;
+        left = λ u r. sym (opened t k h u here ∙ ap (λ (o : Option Term). else-law o k (first-law t (k + 1) (suc h - (k + 1)) u)) (tried-none (m .tried-root u r) e)) ∙ left .left u r;
       }
 
-  pub law-taken : v && holds-at (check-at k) t slots ≡ true → ChosenRoot t n g w a b slots k
+  pub law-taken : v ≡ true → ChosenRoot t n g w a b slots k
   law-taken e = record { chosen-root = go }
     where
       go : (u : Term) → Root n g w a b u → ChosenAt t n g slots (first-law t 5 28 u) k
       go u r =
-          let d = tried-some (tried t n count ok g k low (omega arith) slots m u r) e in
+          let d = tried-some (m .tried-root u r) e in
           rw (← left .left u r, opened t k h u here, d .1) (chosen-at k (d .0) low (omega arith) (d .2))
 
 none-first : (t : Tables) (k m : ℕ) (u : Term) → m ≡ 0 → first-law t k m u ≡ none

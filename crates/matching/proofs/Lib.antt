@@ -14,4 +14,5 @@ mod Rooting
 mod Writing
 mod Entries
 mod BuildingAt
+mod Needing
 mod ChoosingAt

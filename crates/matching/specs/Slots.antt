@@ -9,7 +9,7 @@ use lib.Dec.{eqb, leb, ltb}
 use Rattle.tables.specs.Tables.{Tables, communication, blocked, below}
 use Rattle.plans.specs.Term.{Term, act, words}
 use Rattle.plans.specs.Stack.{stacked}
-use Rattle.laws.specs.Laws.{Binding, unbound, number, fit, law-at}
+use Rattle.laws.specs.Laws.{Binding, unbound, number, fit, law-at, rewrite}
 use Rattle.graph.specs.Graph.{Graph, Holds, Root, ToRead, entry-size}
 use Rattle.matching.specs.declared.condition.Check.{Check}
 use Rattle.matching.specs.declared.condition.Check.the-variants.{Always, Same, InSet, NotInSet, Below, NotBelow}
@@ -80,6 +80,12 @@ holds-at NotInSet t slots = not (blocked t (getD slots 5 0 - 80) (getD slots 3 0
 holds-at Below t slots = below t (getD slots 3 0) (getD slots 4 0)
 holds-at NotBelow t slots = not (below t (getD slots 3 0) (getD slots 4 0))
 
+-- Whether an entry is what a law needs of an operand: 255 is anything, 254 an action, else the word at its root.
+unfoldable pub suited : ℕ → ℕ → List ℕ → ℕ → Bool
+suited need n own v =
+    cond (eqb need 255) true
+    (cond (eqb need 254) (leb v n) (cond (ltb v 256) (eqb v need) (cond (ltb v (length own)) (eqb (getD own v 0) need) false)))
+
 -- one word of a right side as an entry: itself, a letter's entry, or the table entry c
 unfoldable pub entry-for : ℕ → List ℕ → ℕ → ℕ
 entry-for c slots w = cond (ltb w 96) w (cond (ltb w 102) (getD slots (w - 96) 0) c)
@@ -91,6 +97,14 @@ entries-for c slots (w ∷ ws) = entry-for c slots w ∷ entries-for c slots ws
 -- the right side of law k as entries
 unfoldable pub side-entries : Tables → ℕ → List ℕ → List ℕ
 side-entries t k slots = entries-for (communication t (getD slots 3 0) (getD slots 4 0)) slots (forth (law-at k .rhs))
+
+-- Law k is tried at the root: it fails, or it fits, and its right side, as entries, is written as the term that it gives.
+pub data TriedAt (t : Tables) (k n : ℕ) (g : Graph) (slots : List ℕ) : Option Term → Bool → Type 0 where
+  law-fails : TriedAt t k n g slots none false
+  law-fits : (v : Term) → ToRead n g (side-entries t k slots) (words v) → TriedAt t k n g slots (some v) true
+
+pub record TriedRoot (t : Tables) (k n : ℕ) (g : Graph) (w a b : ℕ) (slots : List ℕ) (r : Bool) : Type 0 where
+  pub tried-root : (u : Term) → Root n g w a b u → TriedAt t k n g slots (rewrite t (law-at k) u) r
 
 -- how many words entries are written as
 unfoldable pub entries-size : List ℕ → List ℕ → ℕ

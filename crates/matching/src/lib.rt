@@ -165,10 +165,8 @@ pub fn first_law_at(
     let high = range.high;
     let mut law: u8 = range.low;
     while law <= high {
-        if root::match_root(law, n, own, first, second, word, a, b, &mut *slots) {
-            if root::holds(law, tables, &*slots) {
-                return law;
-            }
+        if root::law_fits_at(law, tables, n, own, first, second, word, a, b, &mut *slots) {
+            return law;
         }
         law += 1;
     }

@@ -11,9 +11,84 @@ ghost use mathlib.Core.List.{[]};
 ghost use lib.ListN.{length, getD};
 ghost use Rattle.plans.specs.Stack.{stacked};
 ghost use Rattle.tables.specs.Tables.{actions};
+ghost use Rattle.tables.specs.Lawful.{Lawful};
 ghost use Rattle.graph.specs.Graph.{graph, Nodes};
 ghost use Rattle.matching.specs.Check.{check-at};
-ghost use Rattle.matching.specs.Slots.{RootTerm, MatchedRoot, holds-at, entry-for, Slots, FineSlots, no-slots, Entry, turned, sign-turn, entry-turn};
+ghost use Rattle.matching.specs.Slots.{RootTerm, MatchedRoot, TriedRoot, suited, holds-at, entry-for, Slots, FineSlots, no-slots, Entry, turned, sign-turn, entry-turn};
+
+// What the first operand of each law's left side must be, or the only one: 255 anything, 254 an action, else the word at its root.
+const FIRST: [u8; 33] = [
+    255, // no law
+    255, // 1: x + y
+    255, // 2: x + (y + z)
+    64, // 3: (x + y) + z
+    255, // 4: x + y
+    64, // 5: (x + y)·z
+    65, // 6: (x·y)·z
+    255, // 7: x + δ
+    0, // 8: δ + x
+    0, // 9: δ·x
+    254, // 10: a | b
+    255, // 11: x ‖ y
+    254, // 12: a ⌊ x
+    65, // 13: a·x ⌊ y
+    64, // 14: (x + y) ⌊ z
+    65, // 15: a·x | b
+    254, // 16: a | b·x
+    65, // 17: a·x | b·y
+    64, // 18: (x + y) | z
+    255, // 19: x | (y + z)
+    254, // 20: ∂(a)
+    254, // 21: ∂(a)
+    64, // 22: ∂(x + y)
+    65, // 23: ∂(x·y)
+    254, // 24: a ◁ b
+    254, // 25: a ◁ b
+    255, // 26: x ◁ y·z
+    255, // 27: x ◁ (y + z)
+    65, // 28: x·y ◁ z
+    64, // 29: (x + y) ◁ z
+    254, // 30: θ(a)
+    65, // 31: θ(x·y)
+    64, // 32: θ(x + y)
+];
+
+// What the second operand of each law's left side must be; 255 where there is none.
+const SECOND: [u8; 33] = [
+    255,
+    255,
+    64,
+    255,
+    255,
+    255,
+    255,
+    0,
+    255,
+    255,
+    254,
+    255,
+    255,
+    255,
+    255,
+    254,
+    65,
+    65,
+    255,
+    64,
+    255,
+    255,
+    255,
+    255,
+    254,
+    254,
+    65,
+    64,
+    255,
+    255,
+    255,
+    255,
+    255,
+];
 
 // Empties the slots: dead stop for each letter, and set 0 for ∂.
 pub fn clear_slots(slots: &mut [u16])
@@ -188,6 +263,54 @@ pub fn holds(law: u8, tables: &[u8], slots: &[u16]) -> bool
         Check::Below => tables::is_below(tables, a, b),
         Check::NotBelow => !tables::is_below(tables, a, b),
     }
+}
+
+// Whether an entry is what a law needs of an operand.
+fn suits(need: u8, n: u8, own: &[u8], v: u16) -> bool
+    ensures { λ r. ⌜ r ≡ suited need n (now (own .entry)) v ⌝ }
+{
+    if need == 255 {
+        return true;
+    }
+    if need == 254 {
+        return v <= n as u16;
+    }
+    if v < FIRST_NODE {
+        return v == need as u16;
+    }
+    let k = v as usize;
+    if k < own.len() { own[k] == need } else { false }
+}
+
+// Tries a law at the root of a term in a graph. Most tries end at what an operand is. If it fits, its letters are in the slots.
+pub fn law_fits_at(
+    law: u8,
+    tables: &[u8],
+    n: u8,
+    own: &[u8],
+    first: &[u16],
+    second: &[u16],
+    word: u8,
+    a: u16,
+    b: u16,
+    slots: &mut [u16],
+) -> bool
+    requires { ⌜ (5 ≤ law) × (law ≤ 32) × (n ≡ actions (now tables)) × Lawful (now tables) ⌝ }
+    requires { ⌜ Nodes (graph (now own) (now first) (now second)) × RootTerm n (graph (now own) (now first) (now second)) word a b × Slots n (graph (now own) (now first) (now second)) (now slots) ⌝ }
+    ensures { λ r. ⌜ TriedRoot (now (tables .entry)) law n (graph (now (own .entry)) (now (first .entry)) (now (second .entry))) word a b (now (slots .exit)) r ⌝ }
+    ensures { λ r. ⌜ Slots n (graph (now (own .entry)) (now (first .entry)) (now (second .entry))) (now (slots .exit)) ⌝ }
+{
+    let k = law as usize;
+    if !suits(FIRST[k], n, own, a) {
+        return false;
+    }
+    if !suits(SECOND[k], n, own, b) {
+        return false;
+    }
+    if !match_root(law, n, own, first, second, word, a, b, &mut *slots) {
+        return false;
+    }
+    holds(law, tables, &*slots)
 }
 
 // One word of a right side as an entry: itself, a letter's entry, or the table entry of a and b.

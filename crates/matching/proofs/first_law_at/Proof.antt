@@ -1,12 +1,11 @@
 -- The lowest law of a range that fits at a root. The invariant: the lowest of the laws left is the lowest of all.
 use Prim.Native.Nat.{suc, _-_, _≤_}
 use mathlib.Core.Path.{sym, _∙_}
-use mathlib.Core.Logic.{⊎-elim}
 use native.Mathlib.Omega.{arith}
 use Rattle.graph.specs.Graph.{graph}
 use Rattle.matching.specs.Slots.{Slots}
 use Rattle.matching.proofs.Choosing.{bounded}
-use Rattle.matching.proofs.ChoosingAt.{Left, left-start, missed, refused, met, law-skipped, law-taken, none-left, few-actions, slots-empty, slots-fine}
+use Rattle.matching.proofs.ChoosingAt.{Left, left-start, law-skipped, law-taken, none-left, few-actions, slots-empty}
 use Rattle.matching.proofs.first_law_at.Statement.{statement}
 use Rattle.matching.proofs.first_law_at.Tie as tie
 
@@ -30,27 +29,20 @@ loop-holds c =
     let d : (5 ≤ r .low) × (r .low ≤ suc (r .high)) × (r .high ≤ 32) = rw (c .laws-of .ensures) (bounded _) in
     (d .0, d .1, d .2, slots-empty (k .args .n) _ (c .before .before .before .clear-slots .ensures), left-start (k .args .tables .now) (k .args .n) _ (k .args .word) (k .args .a) (k .args .b) (few-actions (k .pre .0)) (c .laws-of .ensures))
 
-match-root-requires : tie.Need-match-root-requires Inv-loop μ-loop
-match-root-requires c κs =
+law-fits-at-requires : tie.Need-law-fits-at-requires Inv-loop μ-loop
+law-fits-at-requires c κs =
     let k = c .before .before .before .before .before .before .before .before .before .before .before .before .before in
     let l = c .before .before .loop in
-    ((omega (arith, l .inv .0), omega (arith, l .inv .2), few-actions (k .pre .0), l .inv .3 .long), (k .pre .1 .0, k .pre .1 .1))
-
-holds-requires : tie.Need-holds-requires Inv-loop μ-loop
-holds-requires c κs =
-    let k = c .before .before .before .before .before .before .before .before .before .before .before .before .before .before .before .before .before .before in
-    let m = c .before .before .before .before .match-root in
-    (m .ensures .1 .long, slots-fine (few-actions (k .pre .0)) (m .ensures .1))
+    ((l .inv .0, omega (arith, c .before .loop-test .taken, l .inv .2), k .pre .0 .0, k .pre .0 .1), (k .pre .1 .0, k .pre .1 .1, l .inv .3))
 
 same-length : tie.Need-same-length Inv-loop μ-loop
-same-length c = c .before .before .before .before .before .before .match-root .ensures .1 .long ∙ sym (c .before .before .before .before .before .before .before .before .before .before .before .before .before .before .before .before .before .before .before .before .pre .1 .2)
+same-length c = c .before .before .before .law-fits-at .ensures .1 .long ∙ sym (c .before .before .before .before .before .before .before .before .before .before .before .before .before .before .before .before .before .pre .1 .2)
 
 returns : tie.Need-returns Inv-loop μ-loop
 returns c =
-    let k = c .before .before .before .before .before .before .before .before .before .before .before .before .before .before .before .before .before .before .before .before in
-    let l = c .before .before .before .before .before .before .before .before .before .loop in
-    let m = c .before .before .before .before .before .before .match-root in
-    (law-taken (k .pre .0 .0) (k .pre .0 .1) (l .inv .0) (l .inv .2) (c .before .before .before .before .before .before .before .before .loop-test .taken) (l .inv .4) (m .ensures .0) (met (c .before .before .before .if1 .taken) (c .before .holds .ensures) (c .if2 .taken)), m .ensures .1)
+    let l = c .before .before .before .before .before .before .loop in
+    let m = c .before .before .before .law-fits-at in
+    (law-taken (l .inv .0) (l .inv .2) (c .before .before .before .before .before .loop-test .taken) (l .inv .4) (m .ensures .0) (c .if1 .taken), m .ensures .1)
 
 add-law : tie.Need-add-law Inv-loop μ-loop
 add-law c = omega arith
@@ -60,10 +52,9 @@ loop-less c = omega arith
 
 loop-again : tie.Need-loop-again Inv-loop μ-loop
 loop-again c =
-    let k = c .before .before .before .before .before .before .before .before .before .before .before .before .before .before .before .before .before in
     let l = c .before .before .before .before .before .before .loop in
-    let m = c .before .before .before .match-root in
-    (omega arith, omega arith, l .inv .2, m .ensures .1, law-skipped (k .pre .0 .0) (k .pre .0 .1) (l .inv .0) (l .inv .2) (c .before .before .before .before .before .loop-test .taken) (l .inv .4) (m .ensures .0) (⊎-elim (λ w. refused (m .result) (w .2 .ensures) (w .3 .left)) (λ w. missed _ (w .left)) (c .if1 .came)))
+    let m = c .before .before .before .law-fits-at in
+    (omega arith, omega arith, l .inv .2, m .ensures .1, law-skipped (l .inv .0) (l .inv .2) (c .before .before .before .before .before .loop-test .taken) (l .inv .4) (m .ensures .0) (c .if1 .left))
 
 same-length-2 : tie.Need-same-length-2 Inv-loop μ-loop
 same-length-2 c = c .before .loop .inv .3 .long ∙ sym (c .before .before .before .before .before .before .before .before .before .before .before .before .pre .1 .2)
@@ -80,8 +71,7 @@ first-law-at-spec =
     clear-slots-requires
     laws-of-requires
     loop-holds
-    match-root-requires
-    holds-requires
+    law-fits-at-requires
     same-length
     returns
     add-law
