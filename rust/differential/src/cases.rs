@@ -10,7 +10,8 @@ use reference::random::plans::{basic_plan, plan};
 use reference::random::rewritings::{damage_rewriting, derivation};
 use reference::random::tables::{damaged_tables, lawful_tables};
 use reference::random::Random;
-use reference::stations::program;
+use reference::stations::{program, write_station};
+use reference::tables::trial_tables;
 
 /// One call, with everything handed to it.
 #[derive(Clone, Debug)]
@@ -305,17 +306,11 @@ fn any_reached(random: &mut Random) -> ReachedCase {
 
 /// A station file, mostly of a plan that is soon unfolded, and an area close to its listing.
 fn any_listing(random: &mut Random) -> ListCase {
-    let most = if random.once_in(8 * LONG_ONCE_IN) {
-        SHORT
-    } else {
-        SOON_UNFOLDED
-    };
-    let file = loop {
-        pass_by_plans_above(random, most);
-        let (file, words) = station_file(random);
-        if words <= most || words > LONGEST_LISTED {
-            break file;
-        }
+    let file = match random.below(2 * LONG_ONCE_IN) {
+        0..=3 => long_unfolding(random),
+        4 => wide_unfolding(random),
+        5..=15 => listed_file(random, SHORT),
+        _ => listed_file(random, SOON_UNFOLDED),
     };
     let text = program(&file).len();
     let out = random.near(text, &[0, 1, 93_000]);
@@ -323,6 +318,37 @@ fn any_listing(random: &mut Random) -> ListCase {
         file,
         out: random.lent(out),
     }
+}
+
+/// A station file of a plan of at most so many words, or of more than the program takes.
+fn listed_file(random: &mut Random, most: usize) -> Vec<u8> {
+    loop {
+        pass_by_plans_above(random, most);
+        let (file, words) = station_file(random);
+        if words <= most || words > LONGEST_LISTED {
+            return file;
+        }
+    }
+}
+
+/// The station file of a plan whose unfolding takes about the 5,000 steps that the program
+/// allows: a sum under eight encapsulations by empty sets, each of which takes a step for each
+/// sign and each action.
+fn long_unfolding(random: &mut Random) -> Vec<u8> {
+    let leaves = random.between(311, 315);
+    let mut plan: Vec<u8> = (0..leaves).map(|_| random.pick(&[1, 2, 3, 4])).collect();
+    plan.extend(vec![64; leaves - 1]);
+    plan.extend([81, 82, 83, 84, 85, 86, 87, 81]);
+    write_station(&trial_tables(), &plan)
+}
+
+/// The station file of a merge of so many actions that the plans on the way may be longer than
+/// the program's areas.
+fn wide_unfolding(random: &mut Random) -> Vec<u8> {
+    let actions = random.between(5, 9);
+    let mut plan: Vec<u8> = (0..actions).map(|_| random.pick(&[1, 2, 3, 4])).collect();
+    plan.extend(vec![66; actions - 1]);
+    write_station(&trial_tables(), &plan)
 }
 
 /// Any tables and plan, or lawful tables and a plan that is basic or differs from a basic one

@@ -385,3 +385,23 @@ fn the_same_seed_draws_the_same_case() {
         assert_eq!(one.to_string(), other.to_string());
     }
 }
+
+#[test]
+fn every_kind_of_listing_is_drawn() {
+    let mut met = BTreeSet::new();
+    for seed in 0..8000 {
+        let case = Case::draw(seed);
+        if let Case::ListStation(_) = case {
+            let outcome = case.run(&Reference);
+            let text = String::from_utf8_lossy(&outcome.lent[0]);
+            let words: Vec<&str> = text.split_whitespace().take(2).collect();
+            met.insert(match (outcome.answer.number, &words[..]) {
+                (0, ["end", number]) => format!("end {number}"),
+                (0, ["refused", _]) => "refused".to_string(),
+                _ => "short".to_string(),
+            });
+        }
+    }
+    let kinds: Vec<&str> = met.iter().map(String::as_str).collect();
+    assert_eq!(kinds, ["end 0", "end 34", "end 36", "refused", "short"]);
+}
