@@ -160,7 +160,7 @@ pub extern "C" fn aberulwy_judge_plan(tables: &[u8], plan: &[u8], place: &mut us
     }
 }
 
-// Whether a plan is basic, 1 or 0; or the number of the refusal and its place.
+// Asks whether a plan is basic: 0, with `basic` 1 where it is and 0 where it is not; or the number of the refusal and its place.
 #[no_mangle]
 pub extern "C" fn aberulwy_is_basic(
     tables: &[u8],
@@ -182,7 +182,8 @@ pub extern "C" fn aberulwy_is_basic(
     }
 }
 
-// How many orders a basic plan allows, 0 for a plan that is not basic; or the number of the refusal and its place.
+// Counts the orders of a basic plan: 0, with the count in `orders`, which is 0 for a plan that is not basic; or the number of the refusal and its
+// place.
 #[no_mangle]
 pub extern "C" fn aberulwy_count_orders(
     tables: &[u8],
