@@ -16,3 +16,4 @@ mod Entries
 mod BuildingAt
 mod Needing
 mod ChoosingAt
+mod Starting

@@ -14,6 +14,7 @@ ghost use Rattle.tables.specs.Tables.{actions};
 ghost use Rattle.tables.specs.Lawful.{Lawful};
 ghost use Rattle.graph.specs.Graph.{graph, Nodes};
 ghost use Rattle.matching.specs.Check.{check-at};
+ghost use Rattle.matching.specs.First.{kind, class-of, start-of};
 ghost use Rattle.matching.specs.Slots.{RootTerm, MatchedRoot, TriedRoot, suited, holds-at, entry-for, Slots, FineSlots, no-slots, Entry, turned, sign-turn, entry-turn};
 
 // What the first operand of each law's left side must be, or the only one: 255 anything, 254 an action, else the word at its root.
@@ -88,6 +89,211 @@ const SECOND: [u8; 33] = [
     255,
     255,
     255,
+];
+
+// The law to begin with, for each sign and kinds of its operands (5 by 5): the lowest of the sign's laws that may fit such operands, or the one
+// after its last. The signs are 64 to 70, then each ∂; the kinds are those of kind_of.
+const START: [u8; 200] = [
+    7, // +, the first operand δ
+    8,
+    8,
+    8,
+    8,
+    7, // +, the first operand another action
+    9,
+    9,
+    9,
+    9,
+    7, // +, the first operand a sum
+    9,
+    9,
+    9,
+    9,
+    7, // +, the first operand a product
+    9,
+    9,
+    9,
+    9,
+    7, // +, the first operand anything else
+    9,
+    9,
+    9,
+    9,
+    9, // ·, the first operand δ
+    9,
+    9,
+    9,
+    9,
+    10, // ·, the first operand another action
+    10,
+    10,
+    10,
+    10,
+    5, // ·, the first operand a sum
+    5,
+    5,
+    5,
+    5,
+    6, // ·, the first operand a product
+    6,
+    6,
+    6,
+    6,
+    10, // ·, the first operand anything else
+    10,
+    10,
+    10,
+    10,
+    11, // ‖, the first operand δ
+    11,
+    11,
+    11,
+    11,
+    11, // ‖, the first operand another action
+    11,
+    11,
+    11,
+    11,
+    11, // ‖, the first operand a sum
+    11,
+    11,
+    11,
+    11,
+    11, // ‖, the first operand a product
+    11,
+    11,
+    11,
+    11,
+    11, // ‖, the first operand anything else
+    11,
+    11,
+    11,
+    11,
+    12, // ⌊, the first operand δ
+    12,
+    12,
+    12,
+    12,
+    12, // ⌊, the first operand another action
+    12,
+    12,
+    12,
+    12,
+    14, // ⌊, the first operand a sum
+    14,
+    14,
+    14,
+    14,
+    13, // ⌊, the first operand a product
+    13,
+    13,
+    13,
+    13,
+    15, // ⌊, the first operand anything else
+    15,
+    15,
+    15,
+    15,
+    10, // |, the first operand δ
+    10,
+    19,
+    16,
+    20,
+    10, // |, the first operand another action
+    10,
+    19,
+    16,
+    20,
+    18, // |, the first operand a sum
+    18,
+    18,
+    18,
+    18,
+    15, // |, the first operand a product
+    15,
+    19,
+    17,
+    20,
+    20, // |, the first operand anything else
+    20,
+    19,
+    20,
+    20,
+    24, // ◁, the first operand δ
+    24,
+    27,
+    26,
+    30,
+    24, // ◁, the first operand another action
+    24,
+    27,
+    26,
+    30,
+    29, // ◁, the first operand a sum
+    29,
+    27,
+    26,
+    29,
+    28, // ◁, the first operand a product
+    28,
+    27,
+    26,
+    28,
+    30, // ◁, the first operand anything else
+    30,
+    27,
+    26,
+    30,
+    30, // θ, the first operand δ
+    30,
+    30,
+    30,
+    30,
+    30, // θ, the first operand another action
+    30,
+    30,
+    30,
+    30,
+    32, // θ, the first operand a sum
+    32,
+    32,
+    32,
+    32,
+    31, // θ, the first operand a product
+    31,
+    31,
+    31,
+    31,
+    33, // θ, the first operand anything else
+    33,
+    33,
+    33,
+    33,
+    20, // ∂, the first operand δ
+    20,
+    20,
+    20,
+    20,
+    20, // ∂, the first operand another action
+    20,
+    20,
+    20,
+    20,
+    22, // ∂, the first operand a sum
+    22,
+    22,
+    22,
+    22,
+    23, // ∂, the first operand a product
+    23,
+    23,
+    23,
+    23,
+    24, // ∂, the first operand anything else
+    24,
+    24,
+    24,
+    24,
 ];
 
 // Empties the slots: dead stop for each letter, and set 0 for ∂.
@@ -280,6 +486,47 @@ fn suits(need: u8, n: u8, own: &[u8], v: u16) -> bool
     }
     let k = v as usize;
     if k < own.len() { own[k] == need } else { false }
+}
+
+// What an entry is, as the needs tell entries apart: 0 dead stop, 1 another action, 2 a sum, 3 a product, 4 anything else.
+pub fn kind_of(n: u8, own: &[u8], v: u16) -> usize
+    ensures { λ r. ⌜ r ≡ kind n (now (own .entry)) v ⌝ }
+{
+    if v <= n as u16 {
+        if v == 0 {
+            return 0;
+        }
+        return 1;
+    }
+    let k = v as usize;
+    if k < own.len() {
+        match own[k] {
+            64 => 2,
+            65 => 3,
+            _ => 4,
+        }
+    } else {
+        4
+    }
+}
+
+// Where an operator's word stands in the table of the laws to begin with.
+fn class_of(word: u8) -> usize
+    requires { ⌜ 64 ≤ word ⌝ }
+    ensures { λ r. ⌜ r ≡ class-of word ⌝ }
+{
+    if word < 71 {
+        return (word - 64) as usize;
+    }
+    7
+}
+
+// The law to begin with at an operator's word, by the kinds of its operands: no law of the word below it fits.
+pub fn start_of(word: u8, ka: usize, kb: usize) -> u8
+    requires { ⌜ (64 ≤ word) × (ka ≤ 4) × (kb ≤ 4) ⌝ }
+    ensures { λ r. ⌜ r ≡ start-of word ka kb ⌝ }
+{
+    START[(class_of(word) * 5 + ka) * 5 + kb]
 }
 
 // Tries a law at the root of a term in a graph. Most tries end at what an operand is. If it fits, its letters are in the slots.
