@@ -34,7 +34,7 @@ unfolding laws-of
 laws-other w n64 n65 n66 n67 n68 n69 n70 =
     rw (ne-eqb w 64 n64, ne-eqb w 65 n65, ne-eqb w 66 n66, ne-eqb w 67 n67, ne-eqb w 68 n68, ne-eqb w 69 n69, ne-eqb w 70 n70)
 
-pub laws-far : (w : ℕ) → (64 ≤ w → w ≤ 70 → ⊥) → laws-of w ≡ cond (leb 80 w && leb w 87) (between 20 23) (between 5 4)
+laws-far : (w : ℕ) → (64 ≤ w → w ≤ 70 → ⊥) → laws-of w ≡ cond (leb 80 w && leb w 87) (between 20 23) (between 5 4)
 laws-far w f = laws-other w (λ e. no e (omega arith) (omega arith)) (λ e. no e (omega arith) (omega arith)) (λ e. no e (omega arith) (omega arith)) (λ e. no e (omega arith) (omega arith)) (λ e. no e (omega arith) (omega arith)) (λ e. no e (omega arith) (omega arith)) (λ e. no e (omega arith) (omega arith))
   where
     no : {k : ℕ} → w ≡ k → 64 ≤ k → k ≤ 70 → ⊥

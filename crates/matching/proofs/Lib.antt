@@ -16,4 +16,3 @@ mod Entries
 mod BuildingAt
 mod Needing
 mod ChoosingAt
-mod Starting

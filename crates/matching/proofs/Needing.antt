@@ -27,7 +27,7 @@ unfoldable pub second-needs : List ℕ
 second-needs = 255 ∷ 255 ∷ 64 ∷ 255 ∷ 255 ∷ 255 ∷ 255 ∷ 0 ∷ 255 ∷ 255 ∷ 254 ∷ 255 ∷ 255 ∷ 255 ∷ 255 ∷ 254 ∷ 65 ∷ 65 ∷ 255 ∷ 64 ∷ 255 ∷ 255 ∷ 255 ∷ 255 ∷ 254 ∷ 254 ∷ 65 ∷ 64 ∷ 255 ∷ 255 ∷ 255 ∷ 255 ∷ 255 ∷ []
 
 -- what a pattern needs of the term that it is to fit, at its root
-unfoldable pub need-of : Pattern → ℕ
+unfoldable need-of : Pattern → ℕ
 need-of (any k) = 255
 need-of (any-action k) = 254
 need-of δ = 0
@@ -37,7 +37,7 @@ need-of (θ p) = 255
 need-of (∂ p) = 255
 
 -- what a left side needs of its operands
-unfoldable pub first-need : Pattern → ℕ
+unfoldable first-need : Pattern → ℕ
 unfolding need-of
 first-need (any k) = 255
 first-need (any-action k) = 255
@@ -47,7 +47,7 @@ first-need (node o p q) = need-of p
 first-need (θ p) = need-of p
 first-need (∂ p) = need-of p
 
-unfoldable pub second-need : Pattern → ℕ
+unfoldable second-need : Pattern → ℕ
 unfolding need-of
 second-need (any k) = 255
 second-need (any-action k) = 255
@@ -77,7 +77,7 @@ module _ (k : ℕ) (low : 1 ≤ k) (high : k ≤ 32) where
   unfolding needed
   second-is = eqb-true _ _ (and-right (eqb (getD first-needs k 0) (first-need (law-at k .lhs))) _ is-needed)
 
-pub clash : {A : Type 0} → true ≡ false → A
+clash : {A : Type 0} → true ≡ false → A
 clash e = let q : _≡_ {A = ℕ} 0 1 = cc in absurd (omega arith)
 
 -- a pattern fits no term that it cannot
@@ -112,7 +112,7 @@ module _ {n : ℕ} {g : Graph} (few : n ≤ 31) where
 
   -- nor does a left side whose operand is not what it needs
   module _ {w a b : ℕ} (s : Binding) where
-    pub first-unsuited : (l : Pattern) {u : Term} → Root n g w a b u → suited (first-need l) n (g .own) a ≡ false → fit l u s ≡ none
+    first-unsuited : (l : Pattern) {u : Term} → Root n g w a b u → suited (first-need l) n (g .own) a ≡ false → fit l u s ≡ none
     unfolding first-need suited fit
     first-unsuited (any k) r f = clash f
     first-unsuited (any-action k) r f = clash f
@@ -130,7 +130,7 @@ module _ {n : ℕ} {g : Graph} (few : n ≤ 31) where
     first-unsuited (∂ p) (root-one {o} e k h) f = set-unsuited p o h f s
     first-unsuited (∂ p) (root-two e h l) f = refl
 
-    pub second-unsuited : (l : Pattern) {u : Term} → Root n g w a b u → suited (second-need l) n (g .own) b ≡ false → fit l u s ≡ none
+    second-unsuited : (l : Pattern) {u : Term} → Root n g w a b u → suited (second-need l) n (g .own) b ≡ false → fit l u s ≡ none
     unfolding second-need suited fit
     second-unsuited (any k) r f = clash f
     second-unsuited (any-action k) r f = clash f
@@ -146,7 +146,7 @@ module _ {n : ℕ} {g : Graph} (few : n ≤ 31) where
     second-unsuited (∂ p) r f = clash f
 
 -- a law that does not fit gives nothing
-pub unfit : (t : Tables) {n : ℕ} {g : Graph} (k : ℕ) (slots : List ℕ) (u : Term) → fit (law-at k .lhs) u unbound ≡ none → TriedAt t k n g slots (rewrite t (law-at k) u) false
+unfit : (t : Tables) {n : ℕ} {g : Graph} (k : ℕ) (slots : List ℕ) (u : Term) → fit (law-at k .lhs) u unbound ≡ none → TriedAt t k n g slots (rewrite t (law-at k) u) false
 unfolding rewrite
 unfit t k slots u e = rw e law-fails
 

@@ -4,4 +4,3 @@ pub mod Check
 pub mod Right
 pub mod Choice
 pub mod Slots
-pub mod First

@@ -143,7 +143,7 @@ pub fn put_side(
 }
 
 // The lowest of laws 5 to 32 that fits at the root of a term in a graph, an operator's word and the entries of its operands, or 0. The letters
-// of the law are then in the slots. What the operands are tells with which law to begin.
+// of the law are then in the slots.
 pub fn first_law_at(
     tables: &[u8],
     n: u8,
@@ -163,9 +163,7 @@ pub fn first_law_at(
     root::clear_slots(&mut *slots);
     let range = laws_of(word);
     let high = range.high;
-    let ka = root::kind_of(n, own, a);
-    let kb = root::kind_of(n, own, b);
-    let mut law: u8 = root::start_of(word, ka, kb);
+    let mut law: u8 = range.low;
     while law <= high {
         if root::law_fits_at(law, tables, n, own, first, second, word, a, b, &mut *slots) {
             return law;

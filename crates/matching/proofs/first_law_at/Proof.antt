@@ -1,21 +1,20 @@
--- The lowest law of a range that fits at a root, from the law on that the kinds of the operands give. The invariant: the lowest of the laws left is the lowest of all.
+-- The lowest law of a range that fits at a root. The invariant: the lowest of the laws left is the lowest of all.
 use Prim.Native.Nat.{suc, _-_, _≤_}
 use mathlib.Core.Path.{sym, _∙_}
 use native.Mathlib.Omega.{arith}
 use Rattle.graph.specs.Graph.{graph}
 use Rattle.matching.specs.Slots.{Slots}
 use Rattle.matching.proofs.Choosing.{bounded}
-use Rattle.matching.proofs.ChoosingAt.{Left, law-skipped, law-taken, none-left, few-actions, slots-empty}
-use Rattle.matching.proofs.Starting.{kind-small, root-word, begun}
+use Rattle.matching.proofs.ChoosingAt.{Left, left-start, law-skipped, law-taken, none-left, few-actions, slots-empty}
 use Rattle.matching.proofs.first_law_at.Statement.{statement}
 use Rattle.matching.proofs.first_law_at.Tie as tie
 
 abbrev Inv-loop : tie.InvT-loop
-Inv-loop tables n own first second word a b slots₀ high ka kb law₀ slots law =
+Inv-loop tables n own first second word a b slots₀ high law₀ slots law =
     (5 ≤ law) × (law ≤ suc high) × (high ≤ 32) × Slots n (graph own first second) slots × Left tables n (graph own first second) word a b law high
 
 abbrev μ-loop : tie.MeasureT-loop
-μ-loop tables n own first second word a b slots₀ high ka kb law₀ slots law = suc high - law
+μ-loop tables n own first second word a b slots₀ high law₀ slots law = suc high - law
 
 clear-slots-requires : tie.Need-clear-slots-requires Inv-loop μ-loop
 clear-slots-requires c κs = c .before .before .before .before .before .before .pre .1 .2
@@ -23,33 +22,21 @@ clear-slots-requires c κs = c .before .before .before .before .before .before .
 laws-of-requires : tie.Need-laws-of-requires Inv-loop μ-loop
 laws-of-requires c κs = tt
 
-kind-of-requires : tie.Need-kind-of-requires Inv-loop μ-loop
-kind-of-requires c κs = tt
-
-kind-of-requires-2 : tie.Need-kind-of-requires-2 Inv-loop μ-loop
-kind-of-requires-2 c κs = tt
-
-start-of-requires : tie.Need-start-of-requires Inv-loop μ-loop
-start-of-requires c κs =
-    let k = c .before .before .before .before .before .before .before .before .before .before .before .before in
-    (root-word (k .pre .1 .1 .root), rw (c .before .kind-of .ensures) (kind-small _ _ _), rw (c .kind-of2 .ensures) (kind-small _ _ _))
-
 loop-holds : tie.Need-loop-holds Inv-loop μ-loop
 loop-holds c =
-    let k = c .before .before .before .before .before .before .before .before .before .before .before .before .before in
-    let r = c .before .before .before .laws-of .result in
-    let d : (5 ≤ r .low) × (r .low ≤ suc (r .high)) × (r .high ≤ 32) = rw (c .before .before .before .laws-of .ensures) (bounded _) in
-    let b = begun (k .args .tables .now) (k .args .n) (few-actions (k .pre .0)) _ (k .args .word) (k .args .a) (k .args .b) (k .pre .1 .1) r (c .before .before .before .laws-of .ensures) (d .0) (d .2) (c .before .before .kind-of .ensures) (c .before .kind-of2 .ensures) (c .start-of .ensures) in
-    (b .0, b .1, d .2, slots-empty (k .args .n) _ (c .before .before .before .before .before .before .clear-slots .ensures), b .2)
+    let k = c .before .before .before .before .before .before .before .before .before .before in
+    let r = c .laws-of .result in
+    let d : (5 ≤ r .low) × (r .low ≤ suc (r .high)) × (r .high ≤ 32) = rw (c .laws-of .ensures) (bounded _) in
+    (d .0, d .1, d .2, slots-empty (k .args .n) _ (c .before .before .before .clear-slots .ensures), left-start (k .args .tables .now) (k .args .n) _ (k .args .word) (k .args .a) (k .args .b) (few-actions (k .pre .0)) (c .laws-of .ensures))
 
 law-fits-at-requires : tie.Need-law-fits-at-requires Inv-loop μ-loop
 law-fits-at-requires c κs =
-    let k = c .before .before .before .before .before .before .before .before .before .before .before .before .before .before .before .before in
+    let k = c .before .before .before .before .before .before .before .before .before .before .before .before .before in
     let l = c .before .before .loop in
     ((l .inv .0, omega (arith, c .before .loop-test .taken, l .inv .2), k .pre .0 .0, k .pre .0 .1), (k .pre .1 .0, k .pre .1 .1, l .inv .3))
 
 same-length : tie.Need-same-length Inv-loop μ-loop
-same-length c = c .before .before .before .law-fits-at .ensures .1 .long ∙ sym (c .before .before .before .before .before .before .before .before .before .before .before .before .before .before .before .before .before .before .before .before .pre .1 .2)
+same-length c = c .before .before .before .law-fits-at .ensures .1 .long ∙ sym (c .before .before .before .before .before .before .before .before .before .before .before .before .before .before .before .before .before .pre .1 .2)
 
 returns : tie.Need-returns Inv-loop μ-loop
 returns c =
@@ -70,7 +57,7 @@ loop-again c =
     (omega arith, omega arith, l .inv .2, m .ensures .1, law-skipped (l .inv .0) (l .inv .2) (c .before .before .before .before .before .loop-test .taken) (l .inv .4) (m .ensures .0) (c .if1 .left))
 
 same-length-2 : tie.Need-same-length-2 Inv-loop μ-loop
-same-length-2 c = c .before .loop .inv .3 .long ∙ sym (c .before .before .before .before .before .before .before .before .before .before .before .before .before .before .before .pre .1 .2)
+same-length-2 c = c .before .loop .inv .3 .long ∙ sym (c .before .before .before .before .before .before .before .before .before .before .before .before .pre .1 .2)
 
 returns-2 : tie.Need-returns-2 Inv-loop μ-loop
 returns-2 c = (none-left (c .before .loop .inv .4) (c .loop-test .left) (c .before .loop .slots), c .before .loop .inv .3)
@@ -83,9 +70,6 @@ first-law-at-spec =
     μ-loop
     clear-slots-requires
     laws-of-requires
-    kind-of-requires
-    kind-of-requires-2
-    start-of-requires
     loop-holds
     law-fits-at-requires
     same-length
