@@ -1,8 +1,8 @@
 -- A replay that ends in acceptance is a rewriting from the first plan to the claimed one, so their trees are alike.
-use Prim.Native.Nat.{ℕ, suc, zero}
+use Prim.Native.Nat.{ℕ, suc}
 use native.Mathlib.Omega.{arith}
 use mathlib.Core.Path.{_≡_, refl, subst}
-use mathlib.Core.Bool.{Bool, true, false, cond, _&&_, false≢true, and-eq-true-iff}
+use mathlib.Core.Bool.{Bool, true, false, cond}
 use mathlib.Core.List.{List, [], _∷_}
 use mathlib.Core.Option.{Option, none, some}
 use lib.ListN.{length}
@@ -10,28 +10,21 @@ use lib.Dec.{eqb, ltb}
 use borrow.Author.Tests.{eqb-true, eq-eqb}
 use Rattle.refusals.specs.declared.Refusal.{Refusal}
 use Rattle.refusals.proofs.Judging.{none-of-both}
-use Rattle.tables.specs.Tables.{Tables, actions}
+use Rattle.tables.specs.Tables.{Tables}
 use Rattle.tables.specs.Judging.{table-refusal}
 use Rattle.tables.proofs.Lawful.{accepted-iff-lawful}
-use Rattle.plans.specs.Judging.{plan-refusal, words-refusal}
+use Rattle.plans.specs.Judging.{plan-refusal}
 use Rattle.trees.specs.Meaning.{AlikePlans}
 use Rattle.laws.specs.Laws.{same-bytes}
 use Rattle.laws.specs.Step.{step, Rewrites, no-step, step-then}
+use Rattle.laws.proofs.Sound.{same-list}
 use Rattle.laws.proofs.Stepping.{chain-alike}
 use Rattle.buffer.specs.Areas.{capacity}
 use Rattle.steps.specs.Records.{Move, moves-of}
 use Rattle.checking.specs.Checking.{Replay, on-step, stop-if, replay, replay-of, check-refusal, check-outcome, checked, unless-refused}
-use Rattle.checking.specs.declared.Checked.{Checked}
-use Rattle.checking.specs.declared.Checked.the-variants.{Accepted, TurnedBack, Refused}
+use Rattle.checking.specs.declared.Checked.the-variants.{Accepted, TurnedBack}
 
--- plans equal in their words
-pub same-list : (l m : List ℕ) → same-bytes l m ≡ true → l ≡ m
-unfolding same-bytes
-same-list [] [] e = refl
-same-list [] (c ∷ m) e = absurd (false≢true e)
-same-list (c ∷ l) [] e = absurd (false≢true e)
-same-list (c ∷ l) (d ∷ m) e = cc (eqb-true c d (and-eq-true-iff (eqb c d) _ .0 e .0), same-list l m (and-eq-true-iff (eqb c d) _ .0 e .1))
-
+-- a plan is equal to itself in its words
 pub same-itself : (l : List ℕ) → same-bytes l l ≡ true
 unfolding same-bytes
 same-itself [] = refl

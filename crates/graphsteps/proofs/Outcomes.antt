@@ -2,17 +2,20 @@
 use Prim.Native.Nat.{ℕ, _+_, _-_, _≤_, _<_}
 use native.Mathlib.Omega.{arith}
 use mathlib.Core.Path.{_≡_, refl, _∙_, ap}
+use mathlib.Core.Bool.{Bool, true, false}
 use mathlib.Core.List.{List, _∷_, _++_}
 use mathlib.Core.Option.{Option, none, some}
 use lib.ListN.{length, getD, set}
 use lib.Seq.{length-take-le}
+use lib.Dec.{ltb}
+use borrow.Author.Tests.{ltb-true, ltb-false}
 use Rattle.areas.specs.Area.{overwrite}
 use Rattle.tables.specs.Tables.{Tables, actions, communication}
 use Rattle.tables.specs.Lawful.{Lawful}
 use Rattle.plans.specs.Term.{Term, words}
 use Rattle.plans.specs.Stack.{spell}
 use Rattle.plans.proofs.Words.{unary-low}
-use Rattle.matching.specs.Slots.{RootTerm, ChosenAt, none-at, chosen-at, ChosenRoot, Slots, SideSize, SizesReach, ActionSlots, side-entries, entries-size}
+use Rattle.matching.specs.Slots.{RootTerm, ChosenAt, none-at, chosen-at, ChosenRoot, Slots, SideSize, SizesReach, WordSlots, ActionSlots, side-entries, entries-size}
 use Rattle.graph.specs.Graph.{Graph, Nodes, Holds, Root, root-one, root-two, ToRead}
 use Rattle.graph.proofs.Reading.{holds-inside}
 use Rattle.graphsteps.specs.declared.Progress.{Progress}
@@ -134,6 +137,16 @@ module _ (t : Tables) (ok : Lawful t) (c : ℕ) (most : c ≤ 16384) (allowed ro
         pub sizes-reach : Slots (actions t) (in-use (arrays own first second sizes stack todo) (p .count)) slots → SizesReach slots sizes
         sizes-reach q k l i =
             omega (arith, q .entries k l i, length-take-le (p .count) own (omega (arith, fits .own-long, fits .most-nodes)), fits .most-nodes, fits .sizes-long)
+
+        pub word-slots : Slots (actions t) (in-use (arrays own first second sizes stack todo) (p .count)) slots → WordSlots slots
+        word-slots q k l i = go (ltb k 5) refl
+          where
+            set-place : ltb k 5 ≡ false → k ≡ 5
+            set-place e = omega (arith, ltb-false k 5 e)
+
+            go : (b : Bool) → ltb k 5 ≡ b → getD slots k 0 < 256
+            go true e = omega (arith, few, q .actions k l (ltb-true k 5 e))
+            go false e = rw (set-place e) (omega (arith, q .set))
 
         pub action-slots : Slots (actions t) (in-use (arrays own first second sizes stack todo) (p .count)) slots → ActionSlots slots
         action-slots q = (omega (arith, few, q .actions 3 (omega arith) (omega arith)), omega (arith, few, q .actions 4 (omega arith) (omega arith)))

@@ -22,7 +22,7 @@ use Rattle.laws.proofs.Fitting.{Need, rewritten}
 use Rattle.laws.proofs.Tables.{Proper, lawful-proper}
 
 -- operands equal in their words
-same-list : (l m : List ℕ) → same-bytes l m ≡ true → l ≡ m
+pub same-list : (l m : List ℕ) → same-bytes l m ≡ true → l ≡ m
 unfolding same-bytes
 same-list [] [] e = refl
 same-list [] (c ∷ m) e = absurd (false≢true e)

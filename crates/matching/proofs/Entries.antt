@@ -1,41 +1,23 @@
--- A right side as entries, word by word: how many words they are written as, and how they are put before others in an area.
-use Prim.Native.Nat.{ℕ, suc, _+_, _-_, _*_, _≤_, _<_}
-use mathlib.Core.Path.{_≡_, refl, sym, _∙_, ap}
-use mathlib.Core.Bool.{Bool, true, false, cond}
-use mathlib.Core.List.{List, [], _∷_, _++_}
+-- A right side as entries: how many words it comes to, by the weights of its letters, and how entries are put into an area.
+use Prim.Native.Nat.{ℕ, zero, suc, _+_, _-_, _*_, _≤_, _<_}
+use mathlib.Core.Path.{_≡_, refl, sym, _∙_}
+use mathlib.Core.Bool.{Bool, true, false}
+use mathlib.Core.List.{List, [], _∷_, _++_, append-assoc, append-nil}
 use native.Mathlib.Omega.{arith}
-use native.Mathlib.Numerals.{add-one}
-use lib.ListN.{length, getD, set, take, drop}
-use lib.Seq.{drop-cons, set-split, take-append-le, take-take, length-take-le}
-use lib.Dec.{ltb}
-use borrow.Author.Tests.{lt-ltb, le-ltb, ltb-true, ltb-false}
+use native.Mathlib.Nat.{suc-mul, mul-le-mul-left}
+use lib.ListN.{length, getD, set, length-set, length-append}
+use lib.Dec.{eqb, ltb, leb}
+use borrow.Author.Tests.{lt-ltb, le-ltb, ltb-true, ltb-false, eqb-true, eqb-false, ne-eqb, leb-true}
 use Rattle.areas.specs.Area.{overwrite}
-use Rattle.areas.proofs.Area.{overwrite-none, overwrite-length, drop-overwrite}
-use Rattle.tables.specs.Tables.{Tables, communication}
+use Rattle.areas.proofs.Area.{overwrite-one, overwrite-two, overwrite-length}
+use Rattle.plans.specs.Word.{binary-word}
 use Rattle.graph.specs.Graph.{entry-size}
-use Rattle.laws.specs.Laws.{law-at}
-use Rattle.matching.specs.Check.{part}
+use Rattle.laws.specs.Laws.{law-at, laws}
+use Rattle.matching.specs.declared.side.Weights.{Weights}
 use Rattle.matching.specs.Right.{forth}
-use Rattle.matching.specs.Slots.{entry-for, entries-for, side-entries, entries-size, SizesReach, SideSize}
-use Rattle.matching.proofs.Building.{part-length}
-use Rattle.matching.proofs.LawTables.{right, right-at, right-of}
-use Rattle.matching.proofs.Sides.{side-short}
-
-right-length : length right ≡ 136
-unfolding right
-right-length = refl
-
--- A part of a table, word by word.
-module _ (ws : List ℕ) (i e : ℕ) where
-  part-more : i < e → e ≤ length ws → part i e ws ≡ getD ws i 0 ∷ part (suc i) e ws
-  part-more h l =
-      let q : e - i ≡ suc (e - suc i) = omega arith in
-      rw (q, drop-cons ws i 0 (omega arith))
-
-  part-none : e ≤ i → part i e ws ≡ []
-  part-none h =
-      let q : e - i ≡ 0 = omega arith in
-      rw q
+use Rattle.matching.specs.Slots.{entry-for, entries-for, entries-size, WordSlots, SideSize}
+use Rattle.matching.specs.Redexes.{count-of, others-of, weights-at}
+use Rattle.matching.proofs.Table.{passes, passed}
 
 -- What a word of a right side is as an entry.
 module _ (c : ℕ) (slots : List ℕ) where
@@ -56,169 +38,139 @@ module _ (c : ℕ) (slots : List ℕ) where
   entries-append [] b = refl
   entries-append (w ∷ a) b = rw (entries-append a b)
 
-  entries-length : (ws : List ℕ) → length (entries-for c slots ws) ≡ length ws
-  unfolding entries-for
-  entries-length [] = refl
-  entries-length (w ∷ ws) = rw (entries-length ws)
+-- A word of a right side is x, y or z, or counts as one word.
+data Kind : ℕ → Type 0 where
+  is-x : Kind 96
+  is-y : Kind 97
+  is-z : Kind 98
+  is-sign : {w : ℕ} → w < 96 → Kind w
+  is-other : {w : ℕ} → 99 ≤ w → Kind w
 
--- The size of a node is there for each entry that is a node.
-pub entry-reach : (slots sizes : List ℕ) → SizesReach slots sizes → (w : ℕ) → 256 ≤ entry-for 0 slots w → entry-for 0 slots w < length sizes
-entry-reach slots sizes r w = go (ltb w 96) (ltb w 102) refl refl
+kind-of : (w : ℕ) → Kind w
+kind-of w = go (ltb w 96) (eqb w 96) (eqb w 97) (eqb w 98) refl refl refl refl
   where
-    go : (x y : Bool) → ltb w 96 ≡ x → ltb w 102 ≡ y → 256 ≤ entry-for 0 slots w → entry-for 0 slots w < length sizes
-    go true y p q h = absurd (omega (arith, entry-word 0 slots w (ltb-true w 96 p), ltb-true w 96 p))
-    go false true p q h =
-        let e = entry-letter 0 slots w (ltb-false w 96 p) (ltb-true w 102 q) in
-        rw e (r (w - 96) (omega (arith, ltb-false w 96 p, ltb-true w 102 q)) (rw e at h))
-    go false false p q h = absurd (omega (arith, entry-table 0 slots w (ltb-false w 102 q)))
+    high : 96 ≤ w → (w ≡ 96 → ⊥) → (w ≡ 97 → ⊥) → (w ≡ 98 → ⊥) → 99 ≤ w
+    high h a b c = omega arith
 
--- The size does not depend on the table entry, which is one word.
-module _ (slots sizes : List ℕ) (c : ℕ) (few : c < 256) where
-  entry-size-any : (w : ℕ) → entry-size sizes (entry-for 0 slots w) ≡ entry-size sizes (entry-for c slots w)
-  unfolding entry-for entry-size
-  entry-size-any w = go (ltb w 96) (ltb w 102)
-    where
-      go : (x y : Bool) → entry-size sizes (cond x w (cond y (getD slots (w - 96) 0) 0)) ≡ entry-size sizes (cond x w (cond y (getD slots (w - 96) 0) c))
-      go true y = refl
-      go false true = refl
-      go false false = rw (lt-ltb c 256 few)
+    go : (s x y z : Bool) → ltb w 96 ≡ s → eqb w 96 ≡ x → eqb w 97 ≡ y → eqb w 98 ≡ z → Kind w
+    go true x y z h a b c = is-sign (ltb-true w 96 h)
+    go false true y z h a b c = rw (eqb-true w 96 a) is-x
+    go false false true z h a b c = rw (eqb-true w 97 b) is-y
+    go false false false true h a b c = rw (eqb-true w 98 c) is-z
+    go false false false false h a b c = is-other (high (ltb-false w 96 h) (eqb-false w 96 a) (eqb-false w 97 b) (eqb-false w 98 c))
 
-  size-any : (ws : List ℕ) → entries-size sizes (entries-for 0 slots ws) ≡ entries-size sizes (entries-for c slots ws)
-  unfolding entries-for entries-size
-  size-any [] = refl
-  size-any (w ∷ ws) = rw (entry-size-any w, size-any ws)
+-- The words that a right side comes to, by how often x, y and z stand in it.
+module _ (slots sizes : List ℕ) where
+  abbrev weighed : List ℕ → ℕ
+  weighed ws =
+      count-of 96 ws * entry-size sizes (getD slots 0 0) + count-of 97 ws * entry-size sizes (getD slots 1 0) + count-of 98 ws * entry-size sizes (getD slots 2 0)
+      + others-of ws
 
-module _ (slots sizes ws : List ℕ) (i e : ℕ) where
-  sizes-more : i < e → e ≤ length ws
-      → entries-size sizes (entries-for 0 slots (part i e ws)) ≡ entry-size sizes (entry-for 0 slots (getD ws i 0)) + entries-size sizes (entries-for 0 slots (part (i + 1) e ws))
-  unfolding entries-for entries-size
-  sizes-more h l = rw (add-one i, part-more ws i e h l)
+  module _ (c : ℕ) (few : c < 256) (plain : WordSlots slots) where
+    word-size : (v : ℕ) → v < 256 → entry-size sizes v ≡ 1
+    unfolding entry-size
+    word-size v h = rw (lt-ltb v 256 h)
 
-  sizes-end : e ≤ i → entries-size sizes (entries-for 0 slots (part i e ws)) ≡ 0
-  unfolding entries-for entries-size
-  sizes-end h = rw (part-none ws i e h)
+    other-small : (w : ℕ) → 99 ≤ w → entry-for c slots w < 256
+    other-small w h = go (ltb w 102) refl
+      where
+        go : (b : Bool) → ltb w 102 ≡ b → entry-for c slots w < 256
+        go true e = rw (entry-letter c slots w (omega arith) (ltb-true w 102 e)) (plain (w - 96) (omega arith) (omega (arith, ltb-true w 102 e)))
+        go false e = rw (entry-table c slots w (ltb-false w 102 e)) few
 
--- Counting: the words from place `low` up to place i of the table of right sides come to `total`, with `end` after the last.
-pub record Counting (law : ℕ) (slots sizes : List ℕ) (low end i total : ℕ) : Type 0 where
-  pub passed : low ≤ i
-  pub before-end : i ≤ end
-  pub inside : end ≤ 136
-  pub short : end ≤ low + 11
-  pub few : total ≤ 65535 * (i - low)
-  pub left : total + entries-size sizes (entries-for 0 slots (part i end right)) ≡ entries-size sizes (entries-for 0 slots (forth (law-at law .rhs)))
+    weighed-more : (w : ℕ) (ws : List ℕ) → Kind w → entries-size sizes (entries-for c slots ws) ≡ weighed ws → entries-size sizes (entries-for c slots (w ∷ ws)) ≡ weighed (w ∷ ws)
+    unfolding entry-for entries-for entries-size count-of others-of
+    weighed-more w ws is-x e = omega (arith, e, suc-mul (count-of 96 ws) (entry-size sizes (getD slots 0 0)))
+    weighed-more w ws is-y e = omega (arith, e, suc-mul (count-of 97 ws) (entry-size sizes (getD slots 1 0)))
+    weighed-more w ws is-z e = omega (arith, e, suc-mul (count-of 98 ws) (entry-size sizes (getD slots 2 0)))
+    weighed-more w ws (is-sign h) e =
+        rw (ne-eqb w 96 (λ q. omega arith), ne-eqb w 97 (λ q. omega arith), ne-eqb w 98 (λ q. omega arith), lt-ltb w 96 h, word-size w (omega arith)) (omega (arith, e))
+    weighed-more w ws (is-other h) e =
+        rw (
+          word-size (entry-for c slots w) (other-small w h),
+          ne-eqb w 96 (λ q. omega arith),
+          ne-eqb w 97 (λ q. omega arith),
+          ne-eqb w 98 (λ q. omega arith),
+          le-ltb w 96 (omega arith),
+          le-ltb w 99 h,
+        )
+        (omega (arith, e))
 
-pub counting-start : (law : ℕ) (slots sizes : List ℕ) → 1 ≤ law → law ≤ 32
-    → Counting law slots sizes (getD right-at (law - 1) 0) (getD right-at law 0) (getD right-at (law - 1) 0) 0
-counting-start law slots sizes h l =
-    let c = right-of law h l in
-    let n : getD right-at law 0 - getD right-at (law - 1) 0 ≤ 11 =
-    omega (arith, part-length right (getD right-at (law - 1) 0) (getD right-at law 0) (c .order) (c .within), ap length (c .same), side-short law h l) in
-    record {
-      passed = omega arith;
-      before-end = c .order;
-      inside = omega (arith, c .within, right-length);
-      short = omega (arith, c .order);
-      few = omega arith;
-      left = rw (c .same) (omega arith);
-    }
+    weighed-size : (ws : List ℕ) → entries-size sizes (entries-for c slots ws) ≡ weighed ws
+    unfolding entries-for entries-size count-of others-of
+    weighed-size [] = omega arith
+    weighed-size (w ∷ ws) = weighed-more w ws (kind-of w) (weighed-size ws)
 
-module _ {law low end i total : ℕ} {slots sizes : List ℕ} (k : Counting law slots sizes low end i total) where
-  pub counting-more : i < end → {v size : ℕ} → v ≡ entry-for 0 slots (getD right i 0) → size ≡ entry-size sizes v → size < 65536
-      → Counting law slots sizes low end (i + 1) (total + size)
-  counting-more h {v} {size} e z b =
-      let m = sizes-more slots sizes right i end h (omega (arith, k .inside, right-length)) in
-      let q : size ≡ entry-size sizes (entry-for 0 slots (getD right i 0)) = z ∙ ap (entry-size sizes) e in
-      record {
-        passed = omega (arith, k .passed);
-        before-end = omega arith;
-        inside = k .inside;
-        short = k .short;
-        few = omega (arith, k .passed, k .few);
-        left = omega (arith, k .left, m, q);
-      }
+-- No right side has more than 11 words and letters.
+few? : ℕ → Bool
+few? k = leb (weights-at (suc k) .x + weights-at (suc k) .y + weights-at (suc k) .z + weights-at (suc k) .own) 11
 
-  -- all words are counted
-  pub counting-end : end ≤ i → SideSize law slots sizes total × (total < 1000000)
-  counting-end h =
-      let z = sizes-end slots sizes right i end h in
-      let q : total ≡ entries-size sizes (entries-for 0 slots (forth (law-at law .rhs))) = omega (arith, k .left, z) in
-      (record { side-size = λ c f. q ∙ size-any slots sizes c f (forth (law-at law .rhs)) }, omega (arith, k .before-end, k .short, k .passed, k .few))
+all-few : passes few? 32 ≡ true
+unfolding few? weights-at count-of others-of forth law-at laws binary-word
+all-few = refl
 
--- One more entry before those that stand in an area.
-overwrite-before : (d : List ℕ) (k x : ℕ) (v : List ℕ) → k + 1 + length v ≤ length d → set (overwrite d (k + 1) v) k x ≡ overwrite d k (x ∷ v)
-unfolding overwrite
-overwrite-before d k x v h =
-    let l : length (overwrite d (k + 1) v) ≡ length d = overwrite-length d (k + 1) v h in
-    let t : take k (overwrite d (k + 1) v) ≡ take k d =
-    take-append-le k (take (k + 1) d) (v ++ drop (k + 1 + length v) d) (rw (length-take-le (k + 1) d (omega arith)) (omega arith)) ∙ take-take k (k + 1) d (omega arith) in
-    let r : drop (k + 1) (overwrite d (k + 1) v) ≡ v ++ drop (k + 1 + length v) d = drop-overwrite d (k + 1) v (omega arith) in
-    let q : k + 1 + length v ≡ k + suc (length v) = omega arith in
-    set-split (overwrite d (k + 1) v) k x (omega arith) ∙ rw (← add-one k, t, r, q)
+weights-few : {law : ℕ} {w : Weights} → 1 ≤ law → law ≤ 32 → w ≡ weights-at law → w .x + w .y + w .z + w .own ≤ 11
+unfolding few?
+weights-few {law} h l e =
+    let s : suc (law - 1) ≡ law = omega arith in
+    let q : weights-at (suc (law - 1)) .x + weights-at (suc (law - 1)) .y + weights-at (suc (law - 1)) .z + weights-at (suc (law - 1)) .own ≤ 11 =
+    leb-true _ 11 (passed few? 32 all-few (law - 1) (omega arith)) in
+    rw e (rw s at q)
 
--- Putting: the entries from place i of the table of right sides up to `high` stand over the area d from `front` on, and end before `rest`.
-pub record Putting (c : ℕ) (slots d : List ℕ) (rest low high i front : ℕ) (d′ : List ℕ) : Type 0 where
-  pub above : low ≤ i
-  pub before-end : i ≤ high
-  pub inside : high ≤ 136
-  pub room : i - low ≤ front
-  pub reached : front + (high - i) ≡ rest
-  pub in-area : rest ≤ length d
-  pub over : d′ ≡ overwrite d front (entries-for c slots (part i high right))
+-- a letter's words, so many times
+times-most : (n : ℕ) {size : ℕ} → size < 65536 → n * size ≤ n * 65535
+times-most n {size} h = let m : size ≤ 65535 = omega arith in mul-le-mul-left n m
 
-module _ (t : Tables) (law c : ℕ) (slots d : List ℕ) (rest : ℕ) (h : 1 ≤ law) (l : law ≤ 32) (e : c ≡ communication t (getD slots 3 0) (getD slots 4 0)) where
-  side-is : entries-for c slots (part (getD right-at (law - 1) 0) (getD right-at law 0) right) ≡ side-entries t law slots
-  unfolding side-entries
-  side-is = rw (right-of law h l .same, e)
+-- The sum of the letters' sizes, each as often as its weight says, and of the other words is how many words a right side comes to.
+module _ (law : ℕ) (slots sizes : List ℕ) (w : Weights) (x y z : ℕ) (h : 1 ≤ law) (l : law ≤ 32) (e : w ≡ weights-at law) (plain : WordSlots slots) where
+  pub side-weighed : (x ≡ entry-size sizes (getD slots 0 0)) × (x < 65536) → (y ≡ entry-size sizes (getD slots 1 0)) × (y < 65536)
+      → (z ≡ entry-size sizes (getD slots 2 0)) × (z < 65536)
+      → SideSize law slots sizes (w .x * x + w .y * y + w .z * z + w .own) × (w .x * x + w .y * y + w .z * z + w .own < 1000000)
+  unfolding weights-at
+  side-weighed a b d = (
+    record { side-size = λ c f. rw (e, a .0, b .0, d .0) (sym (weighed-size slots sizes c f plain (forth (law-at law .rhs)))) },
+    omega (arith, times-most (w .x) (a .1), times-most (w .y) (b .1), times-most (w .z) (d .1), weights-few h l e),
+  )
 
-  side-length : length (side-entries t law slots) ≡ getD right-at law 0 - getD right-at (law - 1) 0
-  side-length =
-      let a = getD right-at (law - 1) 0 in
-      let b = getD right-at law 0 in
-      ap length (sym side-is) ∙ entries-length c slots (part a b right) ∙ part-length right a b (right-of law h l .order) (right-of law h l .within)
+-- Words written into an area one after another, from place k + i on.
+abbrev puts : List ℕ → ℕ → ℕ → List ℕ → List ℕ
+puts d k i [] = d
+puts d k i (x ∷ v) = puts (set d (k + i) x) k (suc i) v
 
-  pub putting-start : length (side-entries t law slots) ≤ rest → rest ≤ length d
-      → Putting c slots d rest (getD right-at (law - 1) 0) (getD right-at law 0) (getD right-at law 0) rest d
-  unfolding entries-for
-  putting-start m r =
-      let k = right-of law h l in
-      let b = getD right-at law 0 in
-      record {
-        above = k .order;
-        before-end = omega arith;
-        inside = omega (arith, k .within, right-length);
-        room = omega (arith, side-length);
-        reached = omega arith;
-        in-area = r;
-        over = rw (part-none right b b (omega arith)) (sym (overwrite-none d rest));
-      }
+puts-after-length : (d : List ℕ) (k i : ℕ) (v : List ℕ) → length (puts d k i v) ≡ length d
+puts-after-length d k i [] = refl
+puts-after-length d k i (x ∷ v) = puts-after-length (set d (k + i) x) k (suc i) v ∙ length-set d (k + i) x
 
-  -- all entries are put
-  pub putting-end : {i front : ℕ} {d′ : List ℕ} → Putting c slots d rest (getD right-at (law - 1) 0) (getD right-at law 0) i front d′ → i ≤ getD right-at (law - 1) 0
-      → (d′ ≡ overwrite d front (side-entries t law slots)) × (front + length (side-entries t law slots) ≡ rest)
-  putting-end {i} {front} k z =
-      let q : i ≡ getD right-at (law - 1) 0 = omega (arith, k .above) in
-      (k .over ∙ rw (q, side-is), omega (arith, k .reached, side-length))
+puts-after : (d : List ℕ) (k : ℕ) (u v : List ℕ) → k + (length u + length v) ≤ length d → puts (overwrite d k u) k (length u) v ≡ overwrite d k (u ++ v)
+puts-after d k u [] h = rw (append-nil u)
+puts-after d k u (x ∷ v) h =
+    let n : length (u ++ (x ∷ [])) ≡ suc (length u) = omega (arith, length-append u (x ∷ [])) in
+    let o : set (overwrite d k u) (k + length u) x ≡ overwrite d k (u ++ (x ∷ [])) =
+    overwrite-one (overwrite d k u) (k + length u) x (omega (arith, overwrite-length d k u (omega arith))) ∙ overwrite-two d k u (x ∷ []) (omega arith) in
+    rw o (rw (n, append-assoc u (x ∷ []) v) at (puts-after d k (u ++ (x ∷ [])) v (omega (arith, n))))
 
-module _ {c rest low high i front : ℕ} {slots d d′ : List ℕ} (k : Putting c slots d rest low high i front d′) where
-  put-length : length (entries-for c slots (part i high right)) ≡ high - i
-  put-length = entries-length c slots (part i high right) ∙ part-length right i high (k .before-end) (omega (arith, k .inside, right-length))
+-- from place k on: the area's length stays, so that the next is written inside, and the words stand over the area
+module _ (d : List ℕ) (k x : ℕ) (v : List ℕ) where
+  pub puts-length : length (puts (set d k x) k 1 v) ≡ length d
+  puts-length = puts-after-length (set d k x) k 1 v ∙ length-set d k x
 
-  pub putting-length : length d′ ≡ length d
-  putting-length = ap length (k .over) ∙ overwrite-length d front (entries-for c slots (part i high right)) (omega (arith, k .reached, k .in-area, put-length))
+  pub puts-in : {i : ℕ} → i < length d → i < length (puts (set d k x) k 1 v)
+  puts-in h = rw puts-length h
 
-  pub putting-more : low < i → {v : ℕ} → v ≡ entry-for c slots (getD right (i - 1) 0) → Putting c slots d rest low high (i - 1) (front - 1) (set d′ (front - 1) v)
-  unfolding entries-for
-  putting-more h {v} e =
-      let p : suc (i - 1) ≡ i = omega arith in
-      let f : front - 1 + 1 ≡ front = omega (arith, k .room) in
-      let m : part (i - 1) high right ≡ getD right (i - 1) 0 ∷ part i high right = rw p at (part-more right (i - 1) high (omega (arith, k .before-end)) (omega (arith, k .inside, right-length))) in
-      let b = overwrite-before d (front - 1) v (entries-for c slots (part i high right)) (omega (arith, f, k .reached, k .in-area, put-length)) in
-      record {
-        above = omega arith;
-        before-end = omega (arith, k .before-end);
-        inside = k .inside;
-        room = omega (arith, k .room);
-        reached = omega (arith, k .reached, f);
-        in-area = k .in-area;
-        over = rw (m, ← e, k .over) (rw f at b);
-      }
+  pub puts-all : k + suc (length v) ≤ length d → puts (set d k x) k 1 v ≡ overwrite d k (x ∷ v)
+  puts-all h = rw (overwrite-one d k x (omega arith)) (puts-after d k (x ∷ []) v (omega arith))
+
+-- A law that is none of the first k laws is a later one, and none but the last is after 31.
+abbrev pub Unlike : ℕ → ℕ → Type 0
+Unlike law zero = Unit {0}
+Unlike law (suc k) = Unlike law k × (law ≡ suc k → ⊥)
+
+unlike-above : (law k : ℕ) → 1 ≤ law → Unlike law k → k < law
+unlike-above law zero h u = h
+unlike-above law (suc k) h u = step (unlike-above law k h (u .0)) (u .1)
+  where
+    step : k < law → (law ≡ suc k → ⊥) → suc k < law
+    step a b = omega arith
+
+pub last-law : (law : ℕ) → 1 ≤ law → law ≤ 32 → Unlike law 31 → law ≡ 32
+last-law law h l u = omega (arith, unlike-above law 31 h u)

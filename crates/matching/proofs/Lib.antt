@@ -8,11 +8,12 @@ pub mod Sides
 mod Rewriting
 pub mod Choosing
 mod LawTables
-mod Agenda
-mod Binding
-mod Rooting
 mod Writing
 mod Entries
 mod BuildingAt
-mod Needing
-mod ChoosingAt
+mod Operands
+mod Letters
+mod OneOperand
+mod TwoOperands
+mod Redexes
+mod Roots

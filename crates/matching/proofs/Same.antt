@@ -3,12 +3,11 @@ use Prim.Native.Nat.{ℕ, suc, _+_, _-_, _≤_, _<_}
 use mathlib.Core.Path.{_≡_, refl, ap}
 use mathlib.Core.Bool.{Bool, true, false, _&&_}
 use mathlib.Core.List.{List, [], _∷_}
-use native.Mathlib.Omega.{arith}
 use native.Mathlib.Numerals.{add-one}
 use lib.ListN.{length, getD, drop, drop-of-length-le}
 use lib.Seq.{drop-cons}
 use lib.Dec.{eqb}
-use borrow.Author.Tests.{eq-eqb, ne-eqb, eqb-true}
+use borrow.Author.Tests.{eq-eqb, ne-eqb}
 use Rattle.laws.specs.Laws.{same-bytes}
 
 and-false : (a : Bool) → a && false ≡ false
@@ -34,14 +33,3 @@ module _ (a b : List ℕ) (i : ℕ) where
   pub same-end : length a ≤ i → length b ≤ i → same-bytes (drop i a) (drop i b) ≡ true
   unfolding same-bytes
   same-end h l = rw (drop-of-length-le a h, drop-of-length-le b l)
-
-pub same-equal : (a b : List ℕ) → same-bytes a b ≡ true → a ≡ b
-unfolding same-bytes
-same-equal [] [] e = refl
-same-equal [] (x ∷ b) e = let q : _≡_ {A = ℕ} 0 1 = cc in absurd (omega arith)
-same-equal (x ∷ a) [] e = let q : _≡_ {A = ℕ} 0 1 = cc in absurd (omega arith)
-same-equal (x ∷ a) (y ∷ b) e = go (eqb x y) refl (same-equal a b) e
-  where
-    go : (c : Bool) → eqb x y ≡ c → (same-bytes a b ≡ true → a ≡ b) → c && same-bytes a b ≡ true → x ∷ a ≡ y ∷ b
-    go true q f e = rw (eqb-true x y q, f e)
-    go false q f e = let q : _≡_ {A = ℕ} 0 1 = cc in absurd (omega arith)

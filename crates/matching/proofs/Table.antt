@@ -9,7 +9,7 @@ use lib.Dec.{eqb, leb}
 use borrow.Author.Tests.{leb-true, eqb-true, eqb-false}
 use Rattle.laws.specs.Laws.{same-bytes}
 use Rattle.matching.specs.Check.{part}
-use Rattle.matching.proofs.Same.{same-equal}
+use Rattle.laws.proofs.Sound.{same-list}
 
 pub and-left : (a b : Bool) → a && b ≡ true → a ≡ true
 and-left a b e = and-eq-true-iff a b .0 e .0
@@ -55,7 +55,7 @@ module _ (table cuts : List ℕ) (side : ℕ → List ℕ) where
       record {
         order = rw e (leb-true a b (and-left (leb a b) (leb b (length table) && s) r));
         within = leb-true b (length table) (and-left (leb b (length table)) s t);
-        same = rw e (same-equal _ _ (and-right (leb b (length table)) s t));
+        same = rw e (same-list _ _ (and-right (leb b (length table)) s t));
       }
 
   pub cut : passes cut-right 32 ≡ true → (law : ℕ) → 1 ≤ law → law ≤ 32 → Cut law

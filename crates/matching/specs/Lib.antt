@@ -4,3 +4,4 @@ pub mod Check
 pub mod Right
 pub mod Choice
 pub mod Slots
+pub mod Redexes

@@ -5,6 +5,7 @@ mod condition;
 mod left;
 mod right;
 mod root;
+mod side;
 
 ghost use mathlib.Core.Path.{_≡_};
 ghost use Prim.Native.Nat.{_+_, _≤_, _<_};
@@ -17,7 +18,7 @@ ghost use Rattle.matching.specs.Choice.{law-term, Tried, first-term, Cho
 ghost use Rattle.tables.specs.Tables.{actions};
 ghost use Rattle.tables.specs.Lawful.{Lawful};
 ghost use Rattle.graph.specs.Graph.{graph, Nodes};
-ghost use Rattle.matching.specs.Slots.{RootTerm, ChosenRoot, Slots, SideSize, SizesReach, ActionSlots, side-entries};
+ghost use Rattle.matching.specs.Slots.{RootTerm, ChosenRoot, Slots, SideSize, SizesReach, WordSlots, ActionSlots, side-entries};
 
 // Whether two lists of words are equal.
 pub fn same_words(v: &[u8], w: &[u8]) -> bool
@@ -160,34 +161,27 @@ pub fn first_law_at(
     ensures { λ r. ⌜ ChosenRoot (now (tables .entry)) n (graph (now (own .entry)) (now (first .entry)) (now (second .entry))) word a b (now (slots .exit)) r ⌝ }
     ensures { λ r. ⌜ Slots n (graph (now (own .entry)) (now (first .entry)) (now (second .entry))) (now (slots .exit)) ⌝ }
 {
-    root::clear_slots(&mut *slots);
-    let range = laws_of(word);
-    let high = range.high;
-    let mut law: u8 = range.low;
-    while law <= high {
-        if root::law_fits_at(law, tables, n, own, first, second, word, a, b, &mut *slots) {
-            return law;
-        }
-        law += 1;
-    }
-    0
+    let redex = root::redex_at(tables, n, own, first, second, word, a, b);
+    slots[0] = redex.x;
+    slots[1] = redex.y;
+    slots[2] = redex.z;
+    slots[3] = redex.a;
+    slots[4] = redex.b;
+    slots[5] = redex.set;
+    redex.law
 }
 
 // How many words the right side of a law comes to, its letters in the slots.
 pub fn entries_len(law: u8, slots: &[u16], sizes: &[u16]) -> usize
     requires { ⌜ (1 ≤ law) × (law ≤ 32) × (length (now slots) ≡ 6) ⌝ }
-    requires { ⌜ SizesReach (now slots) (now sizes) ⌝ }
+    requires { ⌜ SizesReach (now slots) (now sizes) × WordSlots (now slots) ⌝ }
     ensures { λ r. ⌜ SideSize law (now (slots .entry)) (now (sizes .entry)) r × (r < 1000000) ⌝ }
 {
-    let k = law as usize;
-    let end = right::RIGHT_AT[k] as usize;
-    let mut i = right::RIGHT_AT[k - 1] as usize;
-    let mut total: usize = 0;
-    while i < end {
-        total += graph::size_of(sizes, root::entry_of(right::RIGHT[i], 0, slots));
-        i += 1;
-    }
-    total
+    let weights = side::weights_of(law);
+    let x = graph::size_of(sizes, slots[0]);
+    let y = graph::size_of(sizes, slots[1]);
+    let z = graph::size_of(sizes, slots[2]);
+    weights.x as usize * x + weights.y as usize * y + weights.z as usize * z + weights.own as usize
 }
 
 // Puts the right side of a law, as entries, before the entries still to read; where it begins.
@@ -196,15 +190,48 @@ pub fn put_entries(law: u8, tables: &[u8], slots: &[u16], todo: &mut [u16], rest
     requires { ⌜ (length (side-entries (now tables) law (now slots)) ≤ rest) × (rest ≤ length (now todo)) ⌝ }
     ensures { λ r. ⌜ (now (todo .exit) ≡ overwrite (now (todo .entry)) r (side-entries (now (tables .entry)) law (now (slots .entry)))) × (r + length (side-entries (now (tables .entry)) law (now (slots .entry))) ≡ rest) ⌝ }
 {
-    let entry = tables::communication_of(tables, slots[3] as u8, slots[4] as u8);
-    let k = law as usize;
-    let low = right::RIGHT_AT[k - 1] as usize;
-    let mut i = right::RIGHT_AT[k] as usize;
-    let mut front: usize = rest;
-    while low < i {
-        i -= 1;
-        front -= 1;
-        todo[front] = root::entry_of(right::RIGHT[i], entry, slots);
+    let x = slots[0];
+    let y = slots[1];
+    let z = slots[2];
+    let a = slots[3];
+    let b = slots[4];
+    let s = slots[5];
+    match law {
+        1 => side::put_3(todo, rest, y, x, 64),
+        2 => side::put_5(todo, rest, x, y, 64, z, 64),
+        3 => side::put_5(todo, rest, x, y, z, 64, 64),
+        4 => side::put_1(todo, rest, x),
+        5 => side::put_7(todo, rest, x, z, 65, y, z, 65, 64),
+        6 => side::put_5(todo, rest, x, y, z, 65, 65),
+        7 => side::put_1(todo, rest, x),
+        8 => side::put_1(todo, rest, x),
+        9 => side::put_1(todo, rest, 0),
+        10 => side::put_1(
+            todo,
+            rest,
+            tables::communication_of(tables, a as u8, b as u8) as u16,
+        ),
+        11 => side::put_11(todo, rest, x, y, 67, y, x, 67, 64, x, y, 68, 64),
+        12 => side::put_3(todo, rest, a, x, 65),
+        13 => side::put_5(todo, rest, a, x, y, 66, 65),
+        14 => side::put_7(todo, rest, x, z, 67, y, z, 67, 64),
+        15 => side::put_5(todo, rest, a, b, 68, x, 65),
+        16 => side::put_5(todo, rest, a, b, 68, x, 65),
+        17 => side::put_7(todo, rest, a, b, 68, x, y, 66, 65),
+        18 => side::put_7(todo, rest, x, z, 68, y, z, 68, 64),
+        19 => side::put_7(todo, rest, x, y, 68, x, z, 68, 64),
+        20 => side::put_1(todo, rest, a),
+        21 => side::put_1(todo, rest, 0),
+        22 => side::put_5(todo, rest, x, s, y, s, 64),
+        23 => side::put_5(todo, rest, x, s, y, s, 65),
+        24 => side::put_1(todo, rest, a),
+        25 => side::put_1(todo, rest, 0),
+        26 => side::put_3(todo, rest, x, y, 69),
+        27 => side::put_5(todo, rest, x, y, 69, z, 69),
+        28 => side::put_5(todo, rest, x, z, 69, y, 65),
+        29 => side::put_7(todo, rest, x, z, 69, y, z, 69, 64),
+        30 => side::put_1(todo, rest, a),
+        31 => side::put_5(todo, rest, x, 70, y, 70, 65),
+        _ => side::put_9(todo, rest, x, 70, y, 69, y, 70, x, 69, 64),
     }
-    front
 }

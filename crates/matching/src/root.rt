@@ -1,290 +1,273 @@
-// The laws at the root of a term that a graph holds: an operator's word and the entries of its operands.
-// Letters go to six slots: the entries of x, y and z, the actions a and b, and ∂'s word.
-use crate::condition;
-use crate::condition::Check;
-use crate::left;
-use crate::left::Moved;
+// The laws at the root of a term that a graph holds, an operator's word and the entries of its operands. What the operands are tells the
+// lowest law of 5 to 32 that fits, so that no law is tried in vain.
 use graph::FIRST_NODE;
 ghost use mathlib.Core.Path.{_≡_};
-ghost use Prim.Native.Nat.{_+_, _-_, _≤_, _<_};
-ghost use mathlib.Core.List.{[]};
-ghost use lib.ListN.{length, getD};
-ghost use Rattle.plans.specs.Stack.{stacked};
+ghost use mathlib.Core.Bool.{_&&_};
+ghost use Prim.Native.Nat.{_≤_, _<_};
 ghost use Rattle.tables.specs.Tables.{actions};
 ghost use Rattle.tables.specs.Lawful.{Lawful};
 ghost use Rattle.graph.specs.Graph.{graph, Nodes};
-ghost use Rattle.matching.specs.Check.{check-at};
-ghost use Rattle.matching.specs.Slots.{RootTerm, MatchedRoot, TriedRoot, suited, holds-at, entry-for, Slots, FineSlots, no-slots, Entry, turned, sign-turn, entry-turn};
+ghost use Rattle.matching.specs.Slots.{RootTerm, Entry};
+ghost use Rattle.matching.specs.Redexes.{operand-of, Small, on-plans, on-actions, on-set, choice-redex, sequence-redex, left-merge-redex, begins-with-action, together-redex, communication-redex, unless-actions, unless-redex, priority-redex, encapsulation-redex, redex-of};
 
-// What the first operand of each law's left side must be, or the only one: 255 anything, 254 an action, else the word at its root.
-const FIRST: [u8; 33] = [
-    255, // no law
-    255, // 1: x + y
-    255, // 2: x + (y + z)
-    64, // 3: (x + y) + z
-    255, // 4: x + y
-    64, // 5: (x + y)·z
-    65, // 6: (x·y)·z
-    255, // 7: x + δ
-    0, // 8: δ + x
-    0, // 9: δ·x
-    254, // 10: a | b
-    255, // 11: x ‖ y
-    254, // 12: a ⌊ x
-    65, // 13: a·x ⌊ y
-    64, // 14: (x + y) ⌊ z
-    65, // 15: a·x | b
-    254, // 16: a | b·x
-    65, // 17: a·x | b·y
-    64, // 18: (x + y) | z
-    255, // 19: x | (y + z)
-    254, // 20: ∂(a)
-    254, // 21: ∂(a)
-    64, // 22: ∂(x + y)
-    65, // 23: ∂(x·y)
-    254, // 24: a ◁ b
-    254, // 25: a ◁ b
-    255, // 26: x ◁ y·z
-    255, // 27: x ◁ (y + z)
-    65, // 28: x·y ◁ z
-    64, // 29: (x + y) ◁ z
-    254, // 30: θ(a)
-    65, // 31: θ(x·y)
-    64, // 32: θ(x + y)
-];
-
-// What the second operand of each law's left side must be; 255 where there is none.
-const SECOND: [u8; 33] = [
-    255,
-    255,
-    64,
-    255,
-    255,
-    255,
-    255,
-    0,
-    255,
-    255,
-    254,
-    255,
-    255,
-    255,
-    255,
-    254,
-    65,
-    65,
-    255,
-    64,
-    255,
-    255,
-    255,
-    255,
-    254,
-    254,
-    65,
-    64,
-    255,
-    255,
-    255,
-    255,
-    255,
-];
-
-// Empties the slots: dead stop for each letter, and set 0 for ∂.
-pub fn clear_slots(slots: &mut [u16])
-    requires { ⌜ length (now slots) ≡ 6 ⌝ }
-    ensures { λ r. ⌜ now (slots .exit) ≡ no-slots ⌝ }
-{
-    slots[0] = 0;
-    slots[1] = 0;
-    slots[2] = 0;
-    slots[3] = 0;
-    slots[4] = 0;
-    slots[5] = 80;
+// An operand: the word at its root and the entries under it. For an action the word is 0, and the action stands for the entries.
+pub struct Operand {
+    pub sign: u8,
+    pub first: u16,
+    pub second: u16,
 }
 
-// Matches the first word of a left side, a sign or ∂, against an operator's word: its operands then wait. How many entries wait.
-pub fn match_sign(
-    sign: u8,
-    word: u8,
-    a: u16,
-    b: u16,
-    agenda: &mut [u16],
-    slots: &mut [u16],
-) -> Moved
-    requires { ⌜ (2 ≤ length (now agenda)) × (length (now slots) ≡ 6) ⌝ }
-    ensures { λ r. ⌜ sign-turn sign word a b [] (now (slots .entry)) ≡ turned r (now (agenda .exit)) (now (slots .exit)) ⌝ }
-{
-    if sign < 96 {
-        if word != sign {
-            return Moved::Fails;
-        }
-        agenda[0] = a;
-        if sign < 70 {
-            agenda[1] = b;
-            return Moved::To(2);
-        }
-        return Moved::To(1);
-    }
-    if word < 80 {
-        return Moved::Fails;
-    }
-    slots[5] = word as u16;
-    agenda[0] = a;
-    Moved::To(1)
+// The law that fits, 0 if none does, and what its letters stand for: the entries of x, y and z, the actions a and b, and ∂'s word.
+pub struct Redex {
+    pub law: u8,
+    pub x: u16,
+    pub y: u16,
+    pub z: u16,
+    pub a: u16,
+    pub b: u16,
+    pub set: u16,
 }
 
-// Matches one word of a left side against the last entry that waits: a sign must be equal, and its operands then wait; a letter of plans takes
-// any entry, a letter of actions an action, and ∂ an encapsulation. How many entries wait then.
-pub fn match_entry(
-    n: u8,
-    own: &[u8],
-    first: &[u16],
-    second: &[u16],
-    word: u8,
-    agenda: &mut [u16],
-    waiting: usize,
-    slots: &mut [u16],
-) -> Moved
-    requires { ⌜ (1 ≤ waiting) × (waiting < length (now agenda)) × (length (now slots) ≡ 6) ⌝ }
-    requires { ⌜ Nodes (graph (now own) (now first) (now second)) × Entry (graph (now own) (now first) (now second)) (getD (now agenda) (waiting - 1) 0) ⌝ }
-    ensures { λ r. ⌜ entry-turn n (graph (now (own .entry)) (now (first .entry)) (now (second .entry))) word (getD (now (agenda .entry)) (waiting - 1) 0) (stacked (now (agenda .entry)) (waiting - 1)) (now (slots .entry)) ≡ turned r (now (agenda .exit)) (now (slots .exit)) ⌝ }
+// Looks at an operand.
+fn operand_at(own: &[u8], first: &[u16], second: &[u16], v: u16) -> Operand
+    requires { ⌜ Nodes (graph (now own) (now first) (now second)) × Entry (graph (now own) (now first) (now second)) v ⌝ }
+    ensures { λ r. ⌜ r ≡ operand-of (graph (now (own .entry)) (now (first .entry)) (now (second .entry))) v ⌝ }
 {
-    let last = waiting - 1;
-    let v = agenda[last];
-    if word < 96 {
-        if v < FIRST_NODE {
-            if v == word as u16 {
-                return Moved::To(last);
-            }
-            return Moved::Fails;
-        }
-        if own[v as usize] != word {
-            return Moved::Fails;
-        }
-        agenda[last] = first[v as usize];
-        if word < 70 {
-            agenda[waiting] = second[v as usize];
-            return Moved::To(waiting + 1);
-        }
-        return Moved::To(waiting);
-    }
-    if word < 99 {
-        slots[(word - 96) as usize] = v;
-        return Moved::To(last);
-    }
-    if word < 101 {
-        if v <= n as u16 {
-            slots[(word - 96) as usize] = v;
-            return Moved::To(last);
-        }
-        return Moved::Fails;
-    }
     if v < FIRST_NODE {
-        return Moved::Fails;
-    }
-    let sign = own[v as usize];
-    if sign < 80 {
-        return Moved::Fails;
-    }
-    slots[5] = sign as u16;
-    agenda[last] = first[v as usize];
-    Moved::To(waiting)
-}
-
-// Matches the left side of a law against an operator's word and the entries of its operands.
-pub fn match_root(
-    law: u8,
-    n: u8,
-    own: &[u8],
-    first: &[u16],
-    second: &[u16],
-    word: u8,
-    a: u16,
-    b: u16,
-    slots: &mut [u16],
-) -> bool
-    requires { ⌜ (1 ≤ law) × (law ≤ 32) × (n ≤ 31) × (length (now slots) ≡ 6) ⌝ }
-    requires { ⌜ Nodes (graph (now own) (now first) (now second)) × RootTerm n (graph (now own) (now first) (now second)) word a b ⌝ }
-    ensures { λ r. ⌜ MatchedRoot n (graph (now (own .entry)) (now (first .entry)) (now (second .entry))) law word a b (now (slots .exit)) r ⌝ }
-    ensures { λ r. ⌜ Slots n (graph (now (own .entry)) (now (first .entry)) (now (second .entry))) (now (slots .exit)) ⌝ }
-{
-    clear_slots(&mut *slots);
-    let k = law as usize;
-    let end = left::LEFT_AT[k] as usize;
-    let mut i = left::LEFT_AT[k - 1] as usize;
-    let mut agenda = [0u16; 8];
-    let mut waiting: usize = 0;
-    match match_sign(left::LEFT[i], word, a, b, &mut agenda, &mut *slots) {
-        Moved::To(next) => {
-            waiting = next;
-        }
-        Moved::Fails => {
-            return false;
-        }
-    }
-    i += 1;
-    while i < end {
-        match match_entry(
-            n,
-            own,
-            first,
-            second,
-            left::LEFT[i],
-            &mut agenda,
-            waiting,
-            &mut *slots,
-        ) {
-            Moved::To(next) => {
-                waiting = next;
-            }
-            Moved::Fails => {
-                return false;
-            }
-        }
-        i += 1;
-    }
-    true
-}
-
-// Whether a law's condition holds of the slots.
-pub fn holds(law: u8, tables: &[u8], slots: &[u16]) -> bool
-    requires { ⌜ (length (now slots) ≡ 6) × FineSlots (now slots) ⌝ }
-    ensures { λ r. ⌜ r ≡ holds-at (check-at law) (now (tables .entry)) (now (slots .entry)) ⌝ }
-{
-    let set = (slots[5] - 80) as u8;
-    let a = slots[3] as u8;
-    let b = slots[4] as u8;
-    match condition::check_of(law) {
-        Check::Always => true,
-        Check::Same => false,
-        Check::InSet => tables::is_blocked(tables, set, a),
-        Check::NotInSet => !tables::is_blocked(tables, set, a),
-        Check::Below => tables::is_below(tables, a, b),
-        Check::NotBelow => !tables::is_below(tables, a, b),
-    }
-}
-
-// Whether an entry is what a law needs of an operand.
-fn suits(need: u8, n: u8, own: &[u8], v: u16) -> bool
-    ensures { λ r. ⌜ r ≡ suited need n (now (own .entry)) v ⌝ }
-{
-    if need == 255 {
-        return true;
-    }
-    if need == 254 {
-        return v <= n as u16;
-    }
-    if v < FIRST_NODE {
-        return v == need as u16;
+        return Operand {
+            sign: 0,
+            first: v,
+            second: v,
+        };
     }
     let k = v as usize;
-    if k < own.len() { own[k] == need } else { false }
+    Operand {
+        sign: own[k],
+        first: first[k],
+        second: second[k],
+    }
 }
 
-// Tries a law at the root of a term in a graph. Most tries end at what an operand is. If it fits, its letters are in the slots.
-pub fn law_fits_at(
-    law: u8,
+// A law whose letters are plans alone.
+fn on_plans(law: u8, x: u16, y: u16, z: u16) -> Redex
+    ensures { λ r. ⌜ r ≡ on-plans law x y z ⌝ }
+{
+    Redex {
+        law,
+        x,
+        y,
+        z,
+        a: 0,
+        b: 0,
+        set: 80,
+    }
+}
+
+// A law whose letters are actions a and b, and plans x and y.
+fn on_actions(law: u8, a: u16, b: u16, x: u16, y: u16) -> Redex
+    ensures { λ r. ⌜ r ≡ on-actions law a b x y ⌝ }
+{
+    Redex {
+        law,
+        x,
+        y,
+        z: 0,
+        a,
+        b,
+        set: 80,
+    }
+}
+
+// A law of encapsulation.
+fn on_set(law: u8, set: u16, a: u16, x: u16, y: u16) -> Redex
+    ensures { λ r. ⌜ r ≡ on-set law set a x y ⌝ }
+{
+    Redex {
+        law,
+        x,
+        y,
+        z: 0,
+        a,
+        b: 0,
+        set,
+    }
+}
+
+// x + y, laws 7 and 8.
+fn choice_redex(a: u16, b: u16) -> Redex
+    ensures { λ r. ⌜ r ≡ choice-redex a b ⌝ }
+{
+    if b == 0 {
+        return on_plans(7, a, 0, 0);
+    }
+    if a == 0 {
+        return on_plans(8, b, 0, 0);
+    }
+    on_plans(0, 0, 0, 0)
+}
+
+// x·y, laws 5, 6 and 9.
+fn sequence_redex(b: u16, p: Operand) -> Redex
+    ensures { λ r. ⌜ r ≡ sequence-redex b p ⌝ }
+{
+    let sign = p.sign;
+    match sign {
+        64 => on_plans(5, p.first, p.second, b),
+        65 => on_plans(6, p.first, p.second, b),
+        0 => {
+            if p.first == 0 {
+                return on_plans(9, b, 0, 0);
+            }
+            on_plans(0, 0, 0, 0)
+        }
+        _ => on_plans(0, 0, 0, 0),
+    }
+}
+
+// x ⌊ y, laws 12 to 14.
+fn left_merge_redex(b: u16, p: Operand) -> Redex
+    ensures { λ r. ⌜ r ≡ left-merge-redex b p ⌝ }
+{
+    let sign = p.sign;
+    match sign {
+        0 => on_actions(12, p.first, 0, b, 0),
+        64 => on_plans(14, p.first, p.second, b),
+        65 => {
+            if p.first < FIRST_NODE {
+                return on_actions(13, p.first, 0, p.second, b);
+            }
+            on_plans(0, 0, 0, 0)
+        }
+        _ => on_plans(0, 0, 0, 0),
+    }
+}
+
+// Whether an operand is an action or begins with one.
+fn begins_with_action(p: Operand) -> bool
+    ensures { λ r. ⌜ r ≡ begins-with-action p ⌝ }
+{
+    let sign = p.sign;
+    match sign {
+        0 => true,
+        65 => p.first < FIRST_NODE,
+        _ => false,
+    }
+}
+
+// Whether both operands begin with actions.
+fn both_begin(p: Operand, q: Operand) -> bool
+    ensures { λ r. ⌜ r ≡ (begins-with-action p && begins-with-action q) ⌝ }
+{
+    if begins_with_action(p) {
+        return begins_with_action(q);
+    }
+    false
+}
+
+// x | y where both begin with actions, laws 10 and 15 to 17.
+fn together_redex(p: Operand, q: Operand) -> Redex
+    ensures { λ r. ⌜ r ≡ together-redex p q ⌝ }
+{
+    if p.sign == 0 {
+        if q.sign == 0 {
+            return on_actions(10, p.first, q.first, 0, 0);
+        }
+        return on_actions(16, p.first, q.first, q.second, 0);
+    }
+    if q.sign == 0 {
+        return on_actions(15, p.first, q.first, p.second, 0);
+    }
+    on_actions(17, p.first, q.first, p.second, q.second)
+}
+
+// x | y, laws 10 and 15 to 19.
+fn communication_redex(a: u16, b: u16, p: Operand, q: Operand) -> Redex
+    ensures { λ r. ⌜ r ≡ communication-redex a b p q ⌝ }
+{
+    if both_begin(p, q) {
+        return together_redex(p, q);
+    }
+    if p.sign == 64 {
+        return on_plans(18, p.first, p.second, b);
+    }
+    if q.sign == 64 {
+        return on_plans(19, a, q.first, q.second);
+    }
+    on_plans(0, 0, 0, 0)
+}
+
+// a ◁ b of two actions, laws 24 and 25.
+fn unless_actions(tables: &[u8], a: u16, b: u16) -> Redex
+    requires { ⌜ (a < 256) × (b < 256) ⌝ }
+    ensures { λ r. ⌜ r ≡ unless-actions (now (tables .entry)) a b ⌝ }
+{
+    if tables::is_below(tables, a as u8, b as u8) {
+        return on_actions(25, a, b, 0, 0);
+    }
+    on_actions(24, a, b, 0, 0)
+}
+
+// x ◁ y, laws 24 to 29.
+fn unless_redex(tables: &[u8], a: u16, b: u16, p: Operand, q: Operand) -> Redex
+    requires { ⌜ Small p × Small q ⌝ }
+    ensures { λ r. ⌜ r ≡ unless-redex (now (tables .entry)) a b p q ⌝ }
+{
+    if q.sign == 65 {
+        return on_plans(26, a, q.first, q.second);
+    }
+    if q.sign == 64 {
+        return on_plans(27, a, q.first, q.second);
+    }
+    if p.sign == 65 {
+        return on_plans(28, p.first, p.second, b);
+    }
+    if p.sign == 64 {
+        return on_plans(29, p.first, p.second, b);
+    }
+    if p.sign == 0 {
+        if q.sign == 0 {
+            return unless_actions(tables, p.first, q.first);
+        }
+        return on_plans(0, 0, 0, 0);
+    }
+    on_plans(0, 0, 0, 0)
+}
+
+// θ(x), laws 30 to 32.
+fn priority_redex(p: Operand) -> Redex
+    ensures { λ r. ⌜ r ≡ priority-redex p ⌝ }
+{
+    let sign = p.sign;
+    match sign {
+        0 => on_actions(30, p.first, 0, 0, 0),
+        65 => on_plans(31, p.first, p.second, 0),
+        64 => on_plans(32, p.first, p.second, 0),
+        _ => on_plans(0, 0, 0, 0),
+    }
+}
+
+// ∂(x), laws 20 to 23.
+fn encapsulation_redex(tables: &[u8], word: u8, p: Operand) -> Redex
+    requires { ⌜ (80 ≤ word) × Small p ⌝ }
+    ensures { λ r. ⌜ r ≡ encapsulation-redex (now (tables .entry)) word p ⌝ }
+{
+    let set = word as u16;
+    let sign = p.sign;
+    match sign {
+        64 => on_set(22, set, 0, p.first, p.second),
+        65 => on_set(23, set, 0, p.first, p.second),
+        0 => {
+            if tables::is_blocked(tables, word - 80, p.first as u8) {
+                return on_set(21, set, p.first, 0, 0);
+            }
+            on_set(20, set, p.first, 0, 0)
+        }
+        _ => on_plans(0, 0, 0, 0),
+    }
+}
+
+// The law that fits over an operator's word and the entries of its operands.
+pub fn redex_at(
     tables: &[u8],
     n: u8,
     own: &[u8],
@@ -293,36 +276,23 @@ pub fn law_fits_at(
     word: u8,
     a: u16,
     b: u16,
-    slots: &mut [u16],
-) -> bool
-    requires { ⌜ (5 ≤ law) × (law ≤ 32) × (n ≡ actions (now tables)) × Lawful (now tables) ⌝ }
-    requires { ⌜ Nodes (graph (now own) (now first) (now second)) × RootTerm n (graph (now own) (now first) (now second)) word a b × Slots n (graph (now own) (now first) (now second)) (now slots) ⌝ }
-    ensures { λ r. ⌜ TriedRoot (now (tables .entry)) law n (graph (now (own .entry)) (now (first .entry)) (now (second .entry))) word a b (now (slots .exit)) r ⌝ }
-    ensures { λ r. ⌜ Slots n (graph (now (own .entry)) (now (first .entry)) (now (second .entry))) (now (slots .exit)) ⌝ }
+) -> Redex
+    requires { ⌜ (n ≡ actions (now tables)) × Lawful (now tables) × Nodes (graph (now own) (now first) (now second)) × RootTerm n (graph (now own) (now first) (now second)) word a b ⌝ }
+    ensures { λ r. ⌜ r ≡ redex-of (now (tables .entry)) (graph (now (own .entry)) (now (first .entry)) (now (second .entry))) word a b ⌝ }
 {
-    let k = law as usize;
-    if !suits(FIRST[k], n, own, a) {
-        return false;
+    if word == 64 {
+        return choice_redex(a, b);
     }
-    if !suits(SECOND[k], n, own, b) {
-        return false;
+    if word == 66 {
+        return on_plans(11, a, b, 0);
     }
-    if !match_root(law, n, own, first, second, word, a, b, &mut *slots) {
-        return false;
+    let p = operand_at(own, first, second, a);
+    match word {
+        65 => sequence_redex(b, p),
+        67 => left_merge_redex(b, p),
+        68 => communication_redex(a, b, p, operand_at(own, first, second, b)),
+        69 => unless_redex(tables, a, b, p, operand_at(own, first, second, b)),
+        70 => priority_redex(p),
+        _ => encapsulation_redex(tables, word, p),
     }
-    holds(law, tables, &*slots)
-}
-
-// One word of a right side as an entry: itself, a letter's entry, or the table entry of a and b.
-pub fn entry_of(word: u8, entry: u8, slots: &[u16]) -> u16
-    requires { ⌜ length (now slots) ≡ 6 ⌝ }
-    ensures { λ r. ⌜ r ≡ entry-for entry (now (slots .entry)) word ⌝ }
-{
-    if word < 96 {
-        return word as u16;
-    }
-    if word < 102 {
-        return slots[(word - 96) as usize];
-    }
-    entry as u16
 }

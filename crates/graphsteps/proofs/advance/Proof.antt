@@ -274,7 +274,7 @@ entries-len-requires c κs =
     let k = o .before .before in
     let s = begun l in
     let b = out.law-bounds (s .args .tables .now) (s .pre .0 .1) (s .args .limit) (s .pre .0 .2) (s .args .allowed) (s .args .room) _ _ _ _ _ _ (s .args .progress) (fits s) (s .pre .0 .4) (low k) (high k) (o .take-operands .result) (o .take-operands .ensures) _ (l .first-law-at .result) (chose l) (some s) (c .before .before .before .before .if3 .left) in
-    ((b .0, b .1, slotted l .long), out.sizes-reach (s .args .tables .now) (s .pre .0 .1) (s .args .limit) (s .pre .0 .2) (s .args .allowed) (s .args .room) _ _ _ _ _ _ (s .args .progress) (fits s) (s .pre .0 .4) (low k) (high k) (o .take-operands .result) (o .take-operands .ensures) _ (l .first-law-at .result) (chose l) (slotted l))
+    ((b .0, b .1, slotted l .long), (out.sizes-reach (s .args .tables .now) (s .pre .0 .1) (s .args .limit) (s .pre .0 .2) (s .args .allowed) (s .args .room) _ _ _ _ _ _ (s .args .progress) (fits s) (s .pre .0 .4) (low k) (high k) (o .take-operands .result) (o .take-operands .ensures) _ (l .first-law-at .result) (chose l) (slotted l), out.word-slots (s .args .tables .now) (s .pre .0 .1) (s .args .limit) (s .pre .0 .2) (s .args .allowed) (s .args .room) _ _ _ _ _ _ (s .args .progress) (fits s) (s .pre .0 .4) (low k) (high k) (o .take-operands .result) (o .take-operands .ensures) _ (l .first-law-at .result) (chose l) (slotted l)))
 
 sub-size : tie.Need-sub-size
 sub-size c =

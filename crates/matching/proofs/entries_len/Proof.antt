@@ -1,85 +1,101 @@
--- The words of a right side's entries are counted. The invariant: the total and what is left come to the size of all.
-use Prim.Native.Nat.{_-_}
+-- The sizes of x, y and z, each as often as the law's weights say, and the other words are what a right side comes to.
+use Prim.Native.Nat.{ℕ, _+_, _*_, _<_}
 use native.Mathlib.Omega.{arith}
 use borrow.Author.Needs.{needs}
-use Rattle.matching.proofs.LawTables.{right, right-at, right-of}
-use Rattle.matching.proofs.Entries.{entry-reach, Counting, counting-start, counting-more, counting-end}
+use Rattle.matching.specs.declared.side.Weights.{Weights}
+use Rattle.matching.specs.Slots.{SideSize}
+use Rattle.matching.proofs.Entries.{side-weighed}
 use Rattle.matching.proofs.entries_len.Statement.{statement}
 use Rattle.matching.proofs.entries_len.Tie as tie
 
-abbrev Inv-loop : tie.InvT-loop
-Inv-loop law slots sizes k end i₀ total₀ i total = Counting law slots sizes i₀ end i total
+-- once the sizes are known: the sum is the answer, and it is small, so that none of its parts goes over
+module _ (k : tie.After-size-of3) where
+  abbrev start : tie.Start
+  start = k .before .before .before .before .before .before .before .before .before
 
-abbrev μ-loop : tie.MeasureT-loop
-μ-loop law slots sizes k end i₀ total₀ i total = end - i
+  abbrev weights : Weights
+  weights = k .before .before .before .before .before .before .weights-of .result
 
-array-read-end : tie.Need-array-read-end Inv-loop μ-loop
-array-read-end c = search needs
+  abbrev sum : ℕ
+  sum = weights .x * k .before .before .before .before .size-of .result + weights .y * k .before .before .size-of2 .result + weights .z * k .size-of3 .result + weights .own
 
-cast-end : tie.Need-cast-end Inv-loop μ-loop
-unfolding right right-at
-cast-end c = let k = c .before .before in omega (arith, right-of (k .args .law) (k .pre .0 .0) (k .pre .0 .1) .within)
+  counted : SideSize (start .args .law) (start .args .slots .now) (start .args .sizes .now) sum × (sum < 1000000)
+  counted =
+      side-weighed (start .args .law) (start .args .slots .now) (start .args .sizes .now) weights _ _ _ (start .pre .0 .0) (start .pre .0 .1) (k .before .before .before .before .before .before .weights-of .ensures) (start .pre .1 .1) (k .before .before .before .before .size-of .ensures) (k .before .before .size-of2 .ensures) (k .size-of3 .ensures)
 
-sub-i : tie.Need-sub-i Inv-loop μ-loop
-sub-i c = search needs
+weights-of-requires : tie.Need-weights-of-requires
+weights-of-requires c κs = search needs
 
-array-read-i : tie.Need-array-read-i Inv-loop μ-loop
-array-read-i c = search needs
+shared-slice-read-size-of : tie.Need-shared-slice-read-size-of
+shared-slice-read-size-of c = search needs
 
-cast-i : tie.Need-cast-i Inv-loop μ-loop
-unfolding right right-at
-cast-i c = let k = c .before .before in omega (arith, right-of (k .args .law) (k .pre .0 .0) (k .pre .0 .1) .order, right-of (k .args .law) (k .pre .0 .0) (k .pre .0 .1) .within)
+size-of-requires : tie.Need-size-of-requires
+size-of-requires c κs = c .before .before .before .before .pre .1 .0 0 (omega arith)
 
-loop-holds : tie.Need-loop-holds Inv-loop μ-loop
-unfolding right right-at
-loop-holds c =
-    let k = c .before .before in
-    counting-start (k .args .law) (k .args .slots .now) (k .args .sizes .now) (k .pre .0 .0) (k .pre .0 .1)
+shared-slice-read-size-of-2 : tie.Need-shared-slice-read-size-of-2
+shared-slice-read-size-of-2 c = search needs
 
-array-read-entry-of : tie.Need-array-read-entry-of Inv-loop μ-loop
-array-read-entry-of c = omega (arith, c .before .loop .inv .inside)
+size-of-requires-2 : tie.Need-size-of-requires-2
+size-of-requires-2 c κs = c .before .before .before .before .before .before .pre .1 .0 1 (omega arith)
 
-entry-of-requires : tie.Need-entry-of-requires Inv-loop μ-loop
-entry-of-requires c κs = c .before .before .before .before .pre .0 .2
+shared-slice-read-size-of-3 : tie.Need-shared-slice-read-size-of-3
+shared-slice-read-size-of-3 c = search needs
 
-size-of-requires : tie.Need-size-of-requires Inv-loop μ-loop
-size-of-requires c κs =
-    let k = c .before .before .before .before .before in
-    rw (c .entry-of .ensures) (entry-reach (k .args .slots .now) (k .args .sizes .now) (k .pre .1) _)
+size-of-requires-3 : tie.Need-size-of-requires-3
+size-of-requires-3 c κs = c .before .before .before .before .before .before .before .before .pre .1 .0 2 (omega arith)
 
-add-total : tie.Need-add-total Inv-loop μ-loop
-add-total c = let l = c .before .before .before .loop in omega (arith, l .inv .few, l .inv .short, l .inv .before-end, l .inv .passed)
+cast-result : tie.Need-cast-result
+cast-result c = search needs
 
-add-i : tie.Need-add-i Inv-loop μ-loop
-add-i c = omega (arith, c .before .before .before .loop .inv .inside)
+mul-result : tie.Need-mul-result
+mul-result c = omega (arith, counted (c .before) .1)
 
-loop-less : tie.Need-loop-less Inv-loop μ-loop
-loop-less c = omega arith
+cast-result-2 : tie.Need-cast-result-2
+cast-result-2 c = search needs
 
-loop-again : tie.Need-loop-again Inv-loop μ-loop
-unfolding right
-loop-again c = counting-more (c .before .before .before .loop .inv) (c .before .before .loop-test .taken) (c .before .entry-of .ensures) (c .size-of .ensures .0) (c .size-of .ensures .1)
+mul-result-2 : tie.Need-mul-result-2
+mul-result-2 c = omega (arith, counted (c .before .before) .1)
 
-returns : tie.Need-returns Inv-loop μ-loop
-returns c = counting-end (c .before .loop .inv) (c .loop-test .left)
+add-result : tie.Need-add-result
+add-result c = omega (arith, counted (c .before .before) .1)
+
+cast-result-3 : tie.Need-cast-result-3
+cast-result-3 c = search needs
+
+mul-result-3 : tie.Need-mul-result-3
+mul-result-3 c = omega (arith, counted (c .before .before .before) .1)
+
+add-result-2 : tie.Need-add-result-2
+add-result-2 c = omega (arith, counted (c .before .before .before) .1)
+
+cast-result-4 : tie.Need-cast-result-4
+cast-result-4 c = search needs
+
+add-result-3 : tie.Need-add-result-3
+add-result-3 c = omega (arith, counted (c .before .before .before .before) .1)
+
+returns : tie.Need-returns
+returns c = counted (c .before .before .before .before)
 
 pub entries-len-spec : {M : Type 1} → statement M
 entries-len-spec =
     tie.close
     (tie.spec
-    Inv-loop
-    μ-loop
-    array-read-end
-    cast-end
-    sub-i
-    array-read-i
-    cast-i
-    loop-holds
-    array-read-entry-of
-    entry-of-requires
+    weights-of-requires
+    shared-slice-read-size-of
     size-of-requires
-    add-total
-    add-i
-    loop-less
-    loop-again
+    shared-slice-read-size-of-2
+    size-of-requires-2
+    shared-slice-read-size-of-3
+    size-of-requires-3
+    cast-result
+    mul-result
+    cast-result-2
+    mul-result-2
+    add-result
+    cast-result-3
+    mul-result-3
+    add-result-2
+    cast-result-4
+    add-result-3
     returns)
