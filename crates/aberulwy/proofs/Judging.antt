@@ -13,17 +13,14 @@ use Rattle.refusals.specs.declared.Judgement.the-variants.{Accepted}
 use Rattle.refusals.specs.Refusal.{judged, report, reported}
 use Rattle.refusals.proofs.Judging.{accepted-none, report-judged}
 use Rattle.tables.specs.Tables.{Tables, actions}
-use Rattle.tables.specs.Judging.{table-refusal}
-use Rattle.tables.specs.Lawful.{Lawful}
 use Rattle.tables.proofs.Lawful.{accepted-iff-lawful}
-use Rattle.plans.specs.Term.{Term, words, term-of}
-use Rattle.plans.specs.Judging.{plan-refusal, words-refusal}
-use Rattle.plans.specs.Basic.{Basic, basic?, basic-words?, orders-of}
+use Rattle.plans.specs.Term.{term-of}
+use Rattle.plans.specs.Judging.{plan-refusal}
+use Rattle.plans.specs.Basic.{basic?, basic-words?}
 use Rattle.plans.proofs.Reading.{term-words}
-use Rattle.plans.proofs.Accepted.{plan-accepted-iff, accepted-iff-term, few-actions, accepted-length, words-some}
+use Rattle.plans.proofs.Accepted.{plan-accepted-iff, accepted-iff-term, few-actions, words-some}
 use Rattle.plans.proofs.Basic.{basic?-iff}
-use Rattle.aberulwy.specs.declared.BasicAnswer.{BasicAnswer}
-use Rattle.aberulwy.specs.declared.BasicAnswer.the-variants.{Yes, No, Refused as Not-judged}
+use Rattle.aberulwy.specs.declared.BasicAnswer.the-variants.{Yes}
 use Rattle.aberulwy.specs.Judging.{AcceptedPlan, BasicPlan, basic-of, basic-answer, basic-report, bit, orders-given, orders-report}
 
 -- a call that judges accepts exactly what is refused nothing

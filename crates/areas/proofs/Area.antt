@@ -1,11 +1,11 @@
 -- Laws of words written over an area and of zeros behind them.
-use Prim.Native.Nat.{ℕ, suc, _+_, _-_, _≤_, _<_}
-use mathlib.Core.Path.{_≡_, refl, sym, _∙_, ap}
+use Prim.Native.Nat.{ℕ, _+_, _-_, _≤_, _<_}
+use mathlib.Core.Path.{_≡_, sym, _∙_, ap}
 use mathlib.Core.List.{List, [], _∷_, _++_, append-assoc, append-nil}
 use native.Mathlib.Omega.{arith}
 use native.Mathlib.Numerals.{add-one}
-use lib.ListN.{length, getD, set, take, drop, replicate, length-append, length-drop, length-replicate, replicate-append-replicate, take-append-drop}
-use lib.Seq.{paste, paste-suc, set-split, take-length, take-all, take-suc-set, length-take-le, take-at, drop-at, take-append-le, drop-drop, drop-append-seam}
+use lib.ListN.{length, getD, set, take, drop, replicate, length-append, length-drop, replicate-append-replicate, take-append-drop}
+use lib.Seq.{paste, paste-suc, set-split, take-length, take-all, take-suc-set, length-take-le, take-at, drop-at, drop-drop, drop-append-seam}
 use Rattle.areas.specs.Area.{overwrite, padded}
 
 -- a copy of every element is the area written over

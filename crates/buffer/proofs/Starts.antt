@@ -1,20 +1,18 @@
 -- Where subplans start: what an earlier place's start goes by, and how a word more starts.
 use Prim.Native.Nat.{ℕ, suc, _+_, _-_, _≤_, _<_}
 use native.Mathlib.Omega.{arith}
-use mathlib.Core.Path.{_≡_, refl, ap, sym, _∙_, subst}
+use mathlib.Core.Path.{_≡_, ap, sym, _∙_, subst}
 use mathlib.Core.List.{List, [], _∷_, _++_}
 use mathlib.Core.Option.{some, Option·some-injective}
-use lib.ListN.{length, take, drop, length-append, take-append-drop}
-use lib.Seq.{take-append-le, length-take-le, take-all}
-use borrow.Author.Tests.{lt-ltb}
+use lib.ListN.{length, take, length-append}
+use lib.Seq.{take-all}
 use Rattle.plans.specs.declared.Binary.{Binary}
 use Rattle.plans.specs.declared.Unary.{Unary}
 use Rattle.plans.specs.declared.Word.{Word}
 use Rattle.plans.specs.declared.Word.the-variants.{Action, One, Two, NoWord}
 use Rattle.plans.specs.Word.{word-of}
 use Rattle.plans.specs.Term.{Term, act, un, bin, words, push, read}
-use Rattle.plans.specs.Place.{subterm}
-use Rattle.plans.specs.Start.{begins, start-of}
+use Rattle.plans.specs.Start.{start-of}
 use Rattle.plans.proofs.Options.{never, and-then-some}
 use Rattle.plans.specs.Stack.{spell}
 use Rattle.plans.proofs.Reading.{Over-all, read-append, read-spell, read-said}

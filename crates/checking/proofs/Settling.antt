@@ -1,23 +1,19 @@
 -- After a replay: the areas hold the outcome of the check.
-use Prim.Native.Nat.{ℕ, _-_, _≤_, min}
-use native.Mathlib.Omega.{arith}
-use mathlib.Core.Path.{_≡_, refl, sym, subst}
+use Prim.Native.Nat.{ℕ, _-_}
+use mathlib.Core.Path.{_≡_, refl}
 use mathlib.Core.Bool.{Bool, true, false, cond}
 use mathlib.Core.List.{List, []}
-use mathlib.Core.Option.{none}
-use lib.ListN.{length, take, drop, replicate}
+use lib.ListN.{length, take, replicate}
 use lib.Seq.{take-at}
 use borrow.Author.Tests.{ne-eqb, eq-eqb}
 use Rattle.areas.specs.Area.{padded}
-use Rattle.tables.specs.Tables.{Tables, actions}
-use Rattle.plans.specs.Judging.{plan-refusal}
+use Rattle.tables.specs.Tables.{Tables}
 use Rattle.laws.specs.Laws.{same-bytes}
-use Rattle.buffer.specs.declared.State.{State}
-use Rattle.buffer.specs.Areas.{capacity, even?, area-a, area-b}
-use Rattle.buffer.specs.Buffer.{whole, Held, before}
-use Rattle.buffer.specs.Moves.{loaded, Storable, Stored}
+use Rattle.buffer.specs.Areas.{area-a, area-b}
+use Rattle.buffer.specs.Buffer.{before}
+use Rattle.buffer.specs.Moves.{Stored}
 use Rattle.steps.specs.Records.{moves-of}
-use Rattle.steps.specs.Working.{plan-in, Working, Kept}
+use Rattle.steps.specs.Working.{plan-in}
 use Rattle.checking.specs.declared.Checked.{Checked}
 use Rattle.checking.specs.declared.Checked.the-variants.{Accepted, TurnedBack}
 use Rattle.checking.specs.declared.Last.{Last}

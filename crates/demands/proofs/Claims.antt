@@ -1,16 +1,16 @@
 -- Demand 3, entire: what is claimed of an unfolding and of a check holds of what the definitions say that they answer and leave.
-use Prim.Native.Nat.{ℕ, suc, zero, _≤_, _<_, _+_, _-_, _*_, _%_}
+use Prim.Native.Nat.{ℕ, _≤_, _-_, _*_, _%_}
 use native.Mathlib.Omega.{arith}
 use native.Mathlib.Nat.{mul-mod-right}
-use mathlib.Core.Path.{_≡_, refl, sym, _∙_, ap, subst}
+use mathlib.Core.Path.{_≡_, refl, sym, _∙_, ap}
 use mathlib.Core.Bool.{Bool, true, false, cond}
-use mathlib.Core.List.{List, [], _∷_, _++_}
+use mathlib.Core.List.{List, []}
 use mathlib.Core.Option.{Option, none, some}
 use mathlib.Core.Logic.{_↔_}
-use lib.ListN.{length, take, length-append}
+use lib.ListN.{length, take}
 use lib.Seq.{take-at}
 use lib.Dec.{eqb, ltb}
-use borrow.Author.Tests.{ltb-false, le-ltb, eqb-true, eqb-false, eq-eqb}
+use borrow.Author.Tests.{ltb-false, le-ltb, eqb-true, eqb-false}
 use Rattle.refusals.specs.declared.Refusal.{Refusal}
 use Rattle.refusals.proofs.Judging.{none-of-both}
 use Rattle.areas.specs.Area.{padded}
@@ -18,7 +18,6 @@ use Rattle.tables.specs.Tables.{Tables, actions}
 use Rattle.tables.specs.Judging.{table-refusal}
 use Rattle.tables.specs.Lawful.{Lawful}
 use Rattle.tables.proofs.Lawful.{accepted-iff-lawful}
-use Rattle.plans.specs.Term.{Term, term-of}
 use Rattle.plans.specs.Judging.{plan-refusal, words-refusal}
 use Rattle.plans.specs.Basic.{basic-words?}
 use Rattle.plans.proofs.Options.{never}
@@ -31,11 +30,9 @@ use Rattle.unfolding.specs.declared.Unfolded.{Unfolded}
 use Rattle.unfolding.specs.declared.Unfolded.the-variants.{Finished, Stopped, Refused}
 use Rattle.checking.specs.declared.Checked.the-variants.{Accepted}
 use Rattle.buffer.specs.Areas.{capacity, even?, area-a, area-b}
-use Rattle.steps.specs.Records.{moves-of}
-use Rattle.steps.specs.Choice.{next-step}
-use Rattle.unfolding.specs.Unfolding.{Run, run, run-of, unfolded, unfold-refusal, unfold-outcome, UnfoldOutcome, settled}
+use Rattle.unfolding.specs.Unfolding.{Run, run-of, unfolded, unfold-refusal, unfold-outcome, settled}
 use Rattle.unfolding.specs.Unfolding as unfolding-of
-use Rattle.checking.specs.Checking.{replay, replay-of, check-refusal, check-outcome, unknown-law}
+use Rattle.checking.specs.Checking.{replay-of, check-refusal, check-outcome}
 use Rattle.demands.specs.Claims.{Reports, finished, stopped, reached-part, own-rewriting, UnfoldClaims, CheckClaims}
 use Rattle.steps.proofs.Choosing.{none-fits, fits-none}
 use Rattle.checking.proofs.Replaying.{accepted-alike}

@@ -1,23 +1,22 @@
 -- A run of the unfolding: its records replay to the plan reached, within the same bounds, and it is finished exactly when no law fits.
-use Prim.Native.Nat.{ℕ, suc, zero, _≤_, _<_, _+_, _-_, _*_, _/_, _%_}
+use Prim.Native.Nat.{ℕ, suc, zero, _≤_, _+_, _-_, _*_, _/_, _%_}
 use native.Mathlib.Omega.{arith}
 use native.Mathlib.Nat.{div-add-mod'}
-use mathlib.Core.Path.{_≡_, refl, sym, _∙_, ap, subst}
-use mathlib.Core.Bool.{Bool, true, false, cond, _&&_}
+use mathlib.Core.Path.{_≡_, refl, sym, _∙_, ap}
+use mathlib.Core.Bool.{Bool, true, false}
 use mathlib.Core.List.{List, [], _∷_, _++_, append-assoc, append-nil}
 use mathlib.Core.Option.{Option, none, some}
-use lib.ListN.{length, length-append}
-use lib.Dec.{eqb, leb, ltb}
-use borrow.Author.Tests.{ltb-true, ltb-false, le-ltb, le-leb}
+use lib.ListN.{length}
+use lib.Dec.{ltb}
+use borrow.Author.Tests.{ltb-false, le-ltb, le-leb}
 use Rattle.tables.specs.Tables.{Tables}
 use Rattle.plans.proofs.Options.{never}
-use Rattle.laws.specs.Laws.{same-bytes}
-use Rattle.laws.specs.Step.{step, Rewrites, no-step, step-then}
-use Rattle.steps.specs.Records.{Move, record-of, moves-of}
+use Rattle.laws.specs.Step.{Rewrites, no-step, step-then}
+use Rattle.steps.specs.Records.{record-of, moves-of}
 use Rattle.steps.specs.Choice.{Found, next-step}
 use Rattle.unfolding.specs.Unfolding.{Run, run, on-found}
 use Rattle.unfolding.specs.Unfolding as unfolding-of
-use Rattle.checking.specs.Checking.{Replay, on-step, stop-if, replay, unknown-law}
+use Rattle.checking.specs.Checking.{stop-if, replay, unknown-law}
 use Rattle.steps.proofs.Choosing.{Taken, next-taken}
 use Rattle.checking.proofs.Replaying.{same-itself}
 

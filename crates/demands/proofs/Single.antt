@@ -1,20 +1,17 @@
 -- A check of one record makes its step exactly when the law fits and the next plan is not too long.
-use Prim.Native.Nat.{ℕ, suc, zero, _≤_, _<_, _+_, _*_, _/_, _%_}
-use native.Mathlib.Omega.{arith}
-use mathlib.Core.Path.{_≡_, refl, sym, _∙_, ap, subst}
+use Prim.Native.Nat.{ℕ, _≤_, _<_}
+use mathlib.Core.Path.{_≡_, refl, ap, subst}
 use mathlib.Core.Bool.{Bool, true, false, cond}
 use mathlib.Core.List.{List, [], _∷_}
 use mathlib.Core.Option.{Option, none, some}
 use lib.ListN.{length}
 use lib.Dec.{eqb, ltb}
 use borrow.Author.Tests.{le-ltb, lt-ltb}
-use Rattle.areas.specs.Area.{padded}
 use Rattle.tables.specs.Tables.{Tables}
 use Rattle.laws.specs.Laws.{same-bytes}
 use Rattle.laws.specs.Step.{step}
 use Rattle.buffer.specs.Areas.{capacity, even?, area-a, area-b}
-use Rattle.steps.specs.Records.{Move, record-of, moves-of}
-use Rattle.checking.specs.declared.Checked.{Checked}
+use Rattle.steps.specs.Records.{record-of, moves-of}
 use Rattle.checking.specs.declared.Checked.the-variants.{Accepted, TurnedBack}
 use Rattle.checking.specs.Checking.{Replay, on-step, stop-if, replay, replay-of, check-refusal, check-outcome, CheckOutcome, checked}
 use Rattle.demands.specs.Claims.{Makes, accepted, turned-back, StepClaims}

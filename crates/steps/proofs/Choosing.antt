@@ -1,12 +1,11 @@
 -- The step that the unfolding takes is a step of one of laws 5 to 32, and there is none exactly when no such law fits anywhere.
-use Prim.Native.Nat.{ℕ, suc, zero, _≤_, _<_, _+_}
+use Prim.Native.Nat.{ℕ, _≤_, _<_}
 use native.Mathlib.Omega.{arith}
-use mathlib.Core.Path.{_≡_, refl, sym, _∙_, ap, subst}
+use mathlib.Core.Path.{_≡_, refl, sym, ap}
 use mathlib.Core.List.{List}
 use mathlib.Core.Option.{Option, none, some}
 use lib.ListN.{length}
 use Rattle.tables.specs.Tables.{Tables}
-use Rattle.tables.specs.Search.{first-from}
 use Rattle.laws.specs.Step.{step}
 use Rattle.plans.proofs.Options.{never}
 use Rattle.steps.specs.Choice.{Found, found-at, lowest-law, next-step}

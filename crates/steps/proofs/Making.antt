@@ -1,31 +1,27 @@
 -- A step made at the last word read: the plan under work is then the next plan, and the plan before it can be put together again.
-use Prim.Native.Nat.{ℕ, suc, zero, _+_, _-_, _≤_, _<_}
+use Prim.Native.Nat.{ℕ, _+_, _-_, _≤_, _<_}
 use native.Mathlib.Omega.{arith}
 use native.Mathlib.Numerals.{add-one}
-use mathlib.Core.Path.{_≡_, refl, sym, _∙_, ap, subst}
-use mathlib.Core.Bool.{Bool, true, false, not}
-use mathlib.Core.List.{List, [], _∷_, _++_}
-use mathlib.Core.Option.{Option, none, some}
-use lib.ListN.{length, getD, take, drop, length-append, length-drop}
-use lib.Seq.{length-take-le, take-take, drop-at}
-use Rattle.areas.specs.Area.{overwrite}
+use mathlib.Core.Path.{_≡_, refl, sym, _∙_, subst}
+use mathlib.Core.Bool.{not}
+use mathlib.Core.List.{List, _++_}
+use mathlib.Core.Option.{none, some}
+use lib.ListN.{length, take, drop, length-append, length-drop}
+use lib.Seq.{length-take-le, take-take}
 use Rattle.tables.specs.Tables.{Tables, actions}
 use Rattle.tables.specs.Lawful.{Lawful}
-use Rattle.plans.specs.Term.{Term, words}
 use Rattle.plans.specs.Judging.{words-refusal}
 use Rattle.plans.specs.Start.{start-of}
 use Rattle.laws.specs.Step.{step}
 use Rattle.laws.proofs.Stepping.{step-alike}
-use Rattle.matching.specs.Right.{spelled-law, Reaches}
 use Rattle.plans.proofs.Start.{start-below}
 use Rattle.buffer.specs.declared.State.{State}
 use Rattle.buffer.specs.Areas.{even?}
-use Rattle.buffer.specs.Buffer.{whole, Held, moved, stepped, before, Undoable}
+use Rattle.buffer.specs.Buffer.{whole, moved, before}
 use Rattle.buffer.specs.Moves.{Gap}
-use Rattle.buffer.proofs.Whole.{held-gap, whole-length, take-whole, drop-whole, step-whole, step-length, held-step, before-step, undoable-step}
-use Rattle.steps.specs.Working.{plan-in, Working, Kept, Same, Next, start-here, side-here, next-here, PutIn, too-long, put-in}
-use Rattle.steps.specs.declared.Made.{Made}
-use Rattle.steps.specs.declared.Made.the-variants.{Step, TooLong}
+use Rattle.buffer.proofs.Whole.{held-gap, whole-length, step-whole, held-step, before-step, undoable-step}
+use Rattle.steps.specs.Working.{plan-in, Working, Kept, Next, start-here, side-here, next-here, PutIn, put-in}
+use Rattle.steps.specs.declared.Made.the-variants.{Step}
 use Rattle.steps.proofs.Prefixes.{put-last}
 
 -- the plan by its words read and its words behind

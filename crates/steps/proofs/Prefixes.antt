@@ -6,12 +6,12 @@ use mathlib.Core.Bool.{Bool, true, false}
 use mathlib.Core.Logic.{_↔_}
 use mathlib.Core.List.{List, [], _∷_, _++_, append-nil, append-assoc}
 use mathlib.Core.Option.{Option, none, some, Option·some-injective}
-use lib.ListN.{length, take, drop, length-append}
+use lib.ListN.{length, take, length-append}
 use lib.Seq.{take-append-le, drop-append-seam}
 use lib.Dec.{eqb}
 use borrow.Author.Tests.{eqb-true, eqb-false}
 use Rattle.tables.specs.Tables.{Tables, actions}
-use Rattle.tables.specs.Search.{first-of, first-from}
+use Rattle.tables.specs.Search.{first-from}
 use Rattle.plans.specs.Term.{Term, words, and-then}
 use Rattle.plans.specs.Place.{subterm, replace}
 use Rattle.plans.specs.Start.{start-of}
@@ -20,8 +20,8 @@ use Rattle.plans.proofs.Start.{subterm-prefix}
 use Rattle.laws.specs.Laws.{law-at, rewrite}
 use Rattle.laws.specs.Step.{step}
 use Rattle.matching.specs.Choice.{law-term, first-law, else-law, first-term}
-use Rattle.steps.specs.Choice.{Found, found-at, lowest-law, next-step}
-use Rattle.steps.proofs.Finding.{search-none, none-search, search-first}
+use Rattle.steps.specs.Choice.{found-at, lowest-law, next-step}
+use Rattle.steps.proofs.Finding.{none-search, search-first}
 use Rattle.steps.proofs.Choosing.{none-fits, fits-none}
 
 -- the plan that a term v gives at the last of the words pre, with the words suf behind

@@ -12,7 +12,7 @@ use Rattle.buffer.specs.Buffer.{whole, Held, moved}
 use Rattle.buffer.specs.Moves.{Shifted}
 use Rattle.buffer.proofs.Whole.{shifted-plan, shifted-held}
 use Rattle.steps.specs.Working.{plan-in, Working, Same}
-use Rattle.steps.proofs.Making.{gap, plan-long}
+use Rattle.steps.proofs.Making.{plan-long}
 
 pub same-start : (t : Tables) (left starts right : List ℕ) (s : State) → Working t left starts right s → Same t left starts right left starts right s s
 same-start t left starts right s w = record { working = w; same-plan = refl; same-step = refl }

@@ -4,7 +4,6 @@ use mathlib.Core.Bool.{Bool, cond, not, _&&_, _||_}
 use mathlib.Core.Option.{Option, none}
 use lib.ListN.{getD, length}
 use lib.Dec.{eqb, leb, ltb}
-use Rattle.refusals.specs.declared.Place.{Place}
 use Rattle.refusals.specs.declared.Place.the-variants.{Nowhere, Byte, Triple}
 use Rattle.refusals.specs.declared.Refusal.{Refusal}
 use Rattle.refusals.specs.Refusal.{refuse, or-else}

@@ -1,5 +1,5 @@
 -- What the ground layers say of the trial trays, by computation: the tables are accepted, so are the plans, and which are basic.
-use Prim.Native.Nat.{ℕ, suc, zero}
+use Prim.Native.Nat.{ℕ}
 use mathlib.Core.Path.{_≡_, refl}
 use mathlib.Core.Bool.{Bool, true, false, not, _&&_}
 use mathlib.Core.List.{List, [], _∷_}

@@ -1,10 +1,10 @@
 -- The twelve trial trays as one table, computed by the definitions: records, plans, endings, areas, the checker's replay, trees and basic.
-use Prim.Native.Nat.{ℕ, suc, zero}
+use Prim.Native.Nat.{ℕ}
 use mathlib.Core.Path.{_≡_, refl}
 use mathlib.Core.Bool.{Bool, true, false, not, _&&_}
 use mathlib.Core.List.{List, [], _∷_}
 use mathlib.Core.Option.{Option, none, some}
-use lib.ListN.{length, replicate}
+use lib.ListN.{replicate}
 use lib.Dec.{eqb}
 use Rattle.areas.specs.Area.{padded}
 use Rattle.tables.specs.Tables.{actions, communication, below, blocked}

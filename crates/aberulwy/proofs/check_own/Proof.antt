@@ -1,5 +1,4 @@
 -- `aberulwy::check_own` meets its contract: the claimed plan is the part reached, and the rewriting the list's own records.
-use native.Mathlib.Omega.{arith}
 use borrow.Author.Needs.{needs}
 use Rattle.aberulwy.proofs.check_own.Statement.{statement}
 use Rattle.aberulwy.proofs.check_own.Tie as tie

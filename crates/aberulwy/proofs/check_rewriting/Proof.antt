@@ -1,6 +1,5 @@
 -- `aberulwy::check_rewriting` meets its contract: the answer and the lent bytes are the lower layer's, and the claims follow from the outcome.
 use Rattle.aberulwy.proofs.Rewriting.{check-contract}
-use native.Mathlib.Omega.{arith}
 use borrow.Author.Needs.{needs}
 use Rattle.aberulwy.proofs.check_rewriting.Statement.{statement}
 use Rattle.aberulwy.proofs.check_rewriting.Tie as tie

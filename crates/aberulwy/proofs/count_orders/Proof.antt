@@ -1,8 +1,7 @@
 -- `aberulwy::count_orders` meets its contract: a refusal stands first, and an accepted plan is what the lower layer asks for.
-use mathlib.Core.Path.{_≡_, refl, sym, _∙_, ap}
+use mathlib.Core.Path.{_≡_, refl, sym, _∙_}
 use mathlib.Core.Option.{none, some}
 use Rattle.refusals.proofs.Judging.{accepted-none, refused-some}
-use Rattle.tables.specs.Tables.{actions}
 use Rattle.plans.specs.Judging.{plan-refusal}
 use Rattle.aberulwy.specs.Judging.{orders-answer}
 use Rattle.aberulwy.proofs.Judging.{few-of}

@@ -7,7 +7,7 @@ use Rattle.tables.specs.Tables.{actions}
 use Rattle.plans.specs.Judging.{plan-refusal}
 use Rattle.plans.specs.Basic.{basic-words?}
 use Rattle.aberulwy.specs.declared.BasicAnswer.{BasicAnswer}
-use Rattle.aberulwy.specs.declared.BasicAnswer.the-variants.{Yes, No, Refused}
+use Rattle.aberulwy.specs.declared.BasicAnswer.the-variants.{Yes}
 use Rattle.aberulwy.specs.Judging.{basic-answer, basic-report, bit, BasicPlan}
 use Rattle.aberulwy.proofs.Judging.{few-of, basic-numbers, basic-yes}
 use Prim.Native.Nat.{ℕ}

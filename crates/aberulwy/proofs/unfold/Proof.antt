@@ -1,6 +1,5 @@
 -- `aberulwy::unfold` meets its contract: the answer and the lent bytes are the lower layer's, and the claims follow from the outcome.
 use Rattle.aberulwy.proofs.Rewriting.{unfold-contract}
-use native.Mathlib.Omega.{arith}
 use borrow.Author.Needs.{needs}
 use Rattle.aberulwy.proofs.unfold.Statement.{statement}
 use Rattle.aberulwy.proofs.unfold.Tie as tie

@@ -2,7 +2,6 @@
 -- check then answers.
 use Rattle.demands.specs.Claims.{finished, stopped}
 use Rattle.aberulwy.proofs.Rewriting.{both-checked, both-refused}
-use native.Mathlib.Omega.{arith}
 use borrow.Author.Needs.{needs}
 use Rattle.aberulwy.proofs.unfold_checked.Statement.{statement}
 use Rattle.aberulwy.proofs.unfold_checked.Tie as tie

@@ -1,9 +1,8 @@
 -- `areas::clear_from` meets its contract. The invariant: what stands before place i is the kept part and then zeros. Assumes nothing.
 use native.Mathlib.Omega.{arith}
-use borrow.Author.Needs.{needs}
-use Prim.Native.Nat.{ℕ, _≤_, _<_, _-_, _+_}
-use mathlib.Core.Path.{_≡_, refl, sym, _∙_}
-use mathlib.Core.List.{List, _++_}
+use Prim.Native.Nat.{_≤_, _-_, _+_}
+use mathlib.Core.Path.{_≡_, refl}
+use mathlib.Core.List.{_++_}
 use lib.ListN.{length, take, replicate, length-set}
 use Rattle.areas.proofs.Area.{zero-none, zero-more, zero-all}
 use Rattle.areas.proofs.clear_from.Statement.{statement}

@@ -1,5 +1,4 @@
 -- `refusals::print_place` meets its contract: one case for each kind of place. Assumes nothing.
-use native.Mathlib.Omega.{arith}
 use borrow.Author.Needs.{needs}
 use Rattle.refusals.proofs.print_place.Statement.{statement}
 use Rattle.refusals.proofs.print_place.Tie as tie
