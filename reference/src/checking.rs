@@ -71,7 +71,7 @@ pub fn check(
 
 /// "Checker, after the start plan: 18 claimed plan would get 11 to 14; then 15 for the
 /// start plan only …; 16 rewriting not a multiple of 3; 17 law 0 or above 32 (first step)."
-fn judge_handed_in(
+pub fn judge_handed_in(
     tables: &[u8],
     start: &[u8],
     claimed: &[u8],

@@ -23,7 +23,10 @@ fn main() {
         "Nanoseconds for a step; the whole call counts (judging, steps, storing). Each number"
     );
     println!("is the least of several turns, which the proved library and the plain version took");
-    println!("one after the other. Maude: its own report, for one of many reductions of the plan;");
+    println!(
+        "one after the other. Steps alone: the proved library's call less the same call with a"
+    );
+    println!("plan of one action. Maude: its own report, for one of many reductions of the plan;");
     println!("rewrites are the equations that it used for one.");
     match PROVED {
         Some(_) => println!("\nIn each row the proved library and the plain version were first called once each, and\nagreed in every number answered and in every lent byte."),
@@ -67,6 +70,20 @@ impl Times {
         }
     }
 
+    /// What a step takes in the proved library without what the call takes beside its steps: the
+    /// least time of the call less that of the same call without a step, which take turns.
+    fn steps_alone(unfolding: &mut Unfolding) -> Option<f64> {
+        let proved = PROVED?;
+        let mut empty = unfolding.without_steps();
+        let [call, fixed]: [f64; 2] = least_times(|index| {
+            match index {
+                0 => unfolding.run(proved),
+                _ => empty.run(proved),
+            };
+        });
+        Some((call - fixed) / unfolding.steps as f64)
+    }
+
     fn ratio(&self) -> Option<f64> {
         self.proved.map(|proved| proved / self.plain)
     }
@@ -81,22 +98,25 @@ impl Times {
 struct Unfoldings {
     with_maude: bool,
     to_plain: Vec<f64>,
-    to_maude: Vec<f64>,
+    call_to_maude: Vec<f64>,
+    steps_to_maude: Vec<f64>,
 }
 
 impl Unfoldings {
     fn begin(with_maude: bool, names: &str) -> Unfoldings {
-        println!("\n| {names} | words | steps | rewrites | proved | plain | proved/plain | Maude | Maude/proved |");
-        println!("|---|--:|--:|--:|--:|--:|--:|--:|--:|--:|");
+        println!("\n| {names} | words | steps | rewrites | plain | proved/plain | proved | Maude/proved | steps alone | Maude/steps alone | Maude |");
+        println!("|---|--:|--:|--:|--:|--:|--:|--:|--:|--:|--:|--:|");
         Unfoldings {
             with_maude,
             to_plain: Vec::new(),
-            to_maude: Vec::new(),
+            call_to_maude: Vec::new(),
+            steps_to_maude: Vec::new(),
         }
     }
 
     fn row(&mut self, names: &str, mut unfolding: Unfolding) {
         let times = Times::measure(names, &mut unfolding);
+        let alone = Times::steps_alone(&mut unfolding);
         let (words, steps) = (unfolding.plan.len(), unfolding.steps);
         let reduced = match self.with_maude {
             true => {
@@ -107,23 +127,27 @@ impl Unfoldings {
         };
         let rewrites = reduced.map_or("–".to_string(), |reduced| reduced.rewrites.to_string());
         let maude = reduced.and_then(|reduced| Some(reduced.time? / steps as f64));
-        let ratio = times
-            .proved
-            .zip(maude)
-            .map(|(proved, maude)| maude / proved);
+        let to_maude = |time: Option<f64>| Some(maude? / time?);
+        let (call_ratio, steps_ratio) = (to_maude(times.proved), to_maude(alone));
         println!(
-            "| {names} | {words} | {steps} | {rewrites} | {} | {} | {} |",
-            times.cells(),
+            "| {names} | {words} | {steps} | {rewrites} | {} | {} | {} | {} | {} | {} | {} |",
+            cell(Some(times.plain)),
+            cell(times.ratio()),
+            cell(times.proved),
+            cell(call_ratio),
+            cell(alone),
+            cell(steps_ratio),
             cell(maude),
-            cell(ratio),
         );
         self.to_plain.extend(times.ratio());
-        self.to_maude.extend(ratio);
+        self.call_to_maude.extend(call_ratio);
+        self.steps_to_maude.extend(steps_ratio);
     }
 
     fn end(self) {
-        let (plain, maude) = (cell(mean(&self.to_plain)), cell(mean(&self.to_maude)));
-        println!("| geometric mean | | | | | | | {plain} | | {maude} |");
+        let [plain, call, steps] =
+            [self.to_plain, self.call_to_maude, self.steps_to_maude].map(|of| cell(mean(&of)));
+        println!("| geometric mean | | | | | | {plain} | | {call} | | {steps} | |");
     }
 }
 
@@ -137,7 +161,7 @@ fn without_steps() {
     println!("|---|--:|--:|--:|");
     for tables in [trial_tables(), sum_tables()] {
         let name = format!("{} actions", actions(&tables));
-        let times = Times::measure(&name, &mut single_action(tables));
+        let times = Times::measure(&name, &mut single_action(tables, LONGEST_PLAN));
         println!("| {name} | {} |", times.cells());
     }
 }

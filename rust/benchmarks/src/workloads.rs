@@ -81,6 +81,12 @@ impl Unfolding {
         unfolding.list.truncate(3 * steps);
         (number == 0).then_some(unfolding)
     }
+
+    /// The same call with a plan of one action: no step is made, and all that comes before and
+    /// after the steps is.
+    pub fn without_steps(&self) -> Unfolding {
+        single_action(self.tables.clone(), self.a.len())
+    }
 }
 
 impl Call for Unfolding {
@@ -94,9 +100,9 @@ impl Call for Unfolding {
     }
 }
 
-/// A plan of one action, which takes no step, with areas of the longest plan.
-pub fn single_action(tables: Vec<u8>) -> Unfolding {
-    let unfolding = Unfolding::within(tables, vec![1], LONGEST_PLAN);
+/// A plan of one action, which takes no step, with areas of this length.
+pub fn single_action(tables: Vec<u8>, area: usize) -> Unfolding {
+    let unfolding = Unfolding::within(tables, vec![1], area);
     unfolding.expect("an action is basic")
 }
 

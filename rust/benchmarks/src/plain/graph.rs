@@ -5,9 +5,10 @@
 //! step costs the symbols of its law, however long the terms are.
 
 use super::gap::Cut;
-use super::laws::{self, Letters, Piece, Root, Terms};
+use super::laws::Root;
 use super::records::Records;
-use reference::plans::{operands, LONGEST_PLAN};
+use super::roots::{Operand, Redex};
+use reference::plans::{operands, CHOICE, LONGEST_PLAN, PRODUCT};
 
 /// Nodes begin at 256, so that every word is an entry too.
 const FIRST_NODE: usize = 256;
@@ -16,11 +17,11 @@ const MOST_NODES: usize = 32768;
 
 /// A word below 256, a node from there on.
 #[derive(Clone, Copy, Default)]
-struct Entry(u16);
+pub struct Entry(u16);
 
 impl Entry {
-    fn word(word: u8) -> Entry {
-        Entry(word.into())
+    pub const fn word(word: u8) -> Entry {
+        Entry(word as u16)
     }
 
     /// The index of the node that the entry is.
@@ -28,20 +29,24 @@ impl Entry {
         let index = usize::from(self.0);
         (index >= FIRST_NODE).then_some(index)
     }
-}
 
-impl From<Piece<Entry>> for Entry {
-    fn from(piece: Piece<Entry>) -> Entry {
-        match piece {
-            Piece::Term(entry) => entry,
-            Piece::Word(word) => Entry::word(word),
-        }
+    pub fn is(self, other: Entry) -> bool {
+        self.0 == other.0
+    }
+
+    pub fn is_word(self) -> bool {
+        self.node().is_none()
+    }
+
+    /// The word that the entry is.
+    pub fn as_word(self) -> u8 {
+        self.0 as u8
     }
 }
 
 /// Signs over their operands: for each node its sign, its operands (the same one twice for a
 /// sign of one), and how many words it is written as.
-struct Nodes {
+pub struct Nodes {
     signs: [u8; MOST_NODES],
     first: [Entry; MOST_NODES],
     second: [Entry; MOST_NODES],
@@ -52,7 +57,7 @@ struct Nodes {
 
 impl Nodes {
     /// How many words an entry is written as.
-    fn size(&self, entry: Entry) -> usize {
+    pub fn size(&self, entry: Entry) -> usize {
         entry.node().map_or(1, |node| self.sizes[node].into())
     }
 
@@ -61,6 +66,25 @@ impl Nodes {
         match operands(root.sign) {
             1 => self.size(root.p) + 1,
             _ => self.size(root.p) + self.size(root.q) + 1,
+        }
+    }
+
+    /// The last word of an entry.
+    fn word(&self, entry: Entry) -> u8 {
+        entry
+            .node()
+            .map_or(entry.as_word(), |node| self.signs[node])
+    }
+
+    /// What an operand is.
+    pub fn operand(&self, entry: Entry) -> Operand {
+        let Some(node) = entry.node() else {
+            return Operand::Action(entry);
+        };
+        match self.signs[node] {
+            CHOICE => Operand::Sum(self.first[node], self.second[node]),
+            PRODUCT => Operand::Product(self.first[node], self.second[node]),
+            _ => Operand::Other,
         }
     }
 
@@ -76,19 +100,6 @@ impl Nodes {
         self.sizes[node] = self.root_size(root) as u16;
         self.count += 1;
         Some(Entry(node as u16))
-    }
-}
-
-impl Terms for &Nodes {
-    type Term = Entry;
-
-    fn word(self, entry: Entry) -> u8 {
-        entry.node().map_or(entry.0 as u8, |node| self.signs[node])
-    }
-
-    fn two(self, entry: Entry) -> (Entry, Entry) {
-        let node = usize::from(entry.0);
-        (self.first[node], self.second[node])
     }
 }
 
@@ -150,15 +161,15 @@ impl Graph {
     pub fn walk(&mut self, tables: &[u8], records: &mut Records, room: usize) {
         while self.rest < LONGEST_PLAN {
             let entry = self.todo[self.rest];
-            let sign = entry.0 as u8;
+            let sign = entry.as_word();
             if entry.node().is_some() || operands(sign) == 0 {
                 self.read_term(entry);
                 continue;
             }
             let root = self.root(sign);
-            let went_on = match laws::lowest(tables, &self.nodes, root) {
+            let went_on = match Redex::at(tables, &self.nodes, root) {
                 None => self.read_sign(root),
-                Some((law, letters)) => self.step(tables, records, room, root, law, letters),
+                Some(redex) => self.step(tables, records, room, root, redex),
             };
             if !went_on {
                 return;
@@ -213,22 +224,16 @@ impl Graph {
         records: &mut Records,
         room: usize,
         root: Root<Entry>,
-        law: u8,
-        letters: Letters<Entry>,
+        redex: Redex,
     ) -> bool {
-        let right = laws::right(law, tables, letters).map(Entry::from);
         let taken = self.nodes.root_size(root);
-        let put = right.clone().map(|entry| self.nodes.size(entry)).sum();
+        let put = redex.size(&self.nodes);
         let size = self.size - taken + put;
         if records.full().is_some() || size > room {
             return false;
         }
-        records.put(law, self.read);
-        self.rest += 1;
-        for entry in right.rev() {
-            self.rest -= 1;
-            self.todo[self.rest] = entry;
-        }
+        records.put(redex.law, self.read);
+        self.rest = redex.put(tables, &mut self.todo, self.rest + 1);
         self.height -= usize::from(operands(root.sign));
         self.read = self.read + 1 - taken;
         self.size = size;
@@ -263,7 +268,7 @@ impl Graph {
         for place in space.iter_mut().rev() {
             self.height -= 1;
             let entry = self.stack[self.height];
-            *place = (&self.nodes).word(entry);
+            *place = self.nodes.word(entry);
             let Some(node) = entry.node() else {
                 continue;
             };

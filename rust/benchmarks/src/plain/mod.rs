@@ -11,11 +11,12 @@ mod gap;
 mod graph;
 mod laws;
 mod records;
+mod roots;
 
 use gap::Gap;
 use graph::Graph;
 use records::Records;
-use reference::plans::{judge, judge_plan};
+use reference::plans::judge;
 use reference::runs::room;
 use reference::unfolding::RECORD;
 use reference::{checking, unfolding, Refusal};
@@ -92,7 +93,7 @@ pub fn check(
     b: &mut [u8],
 ) -> checking::Answer {
     let room = room(a, b);
-    if let Err(refusal) = judge_check(tables, start, claimed, rewriting, room) {
+    if let Err(refusal) = checking::judge_handed_in(tables, start, claimed, rewriting, room) {
         return checking::Answer::Refused(refusal);
     }
     let mut gap = Gap::load(start);
@@ -109,30 +110,6 @@ pub fn check(
             steps,
             size,
         },
-    }
-}
-
-fn judge_check(
-    tables: &[u8],
-    start: &[u8],
-    claimed: &[u8],
-    rewriting: &[u8],
-    room: usize,
-) -> Result<(), Refusal> {
-    judge(tables, start)?;
-    if judge_plan(tables, claimed).is_err() {
-        return Err(Refusal::nowhere(18));
-    }
-    if start.len() > room {
-        return Err(Refusal::nowhere(15));
-    }
-    if !rewriting.len().is_multiple_of(RECORD) {
-        return Err(Refusal::nowhere(16));
-    }
-    let mut laws = rewriting.iter().step_by(RECORD);
-    match laws.position(|law| !(1..=32).contains(law)) {
-        Some(step) => Err(Refusal::at_step(17, step)),
-        None => Ok(()),
     }
 }
 
