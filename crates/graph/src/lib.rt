@@ -10,7 +10,7 @@ ghost use Rattle.graph.specs.Graph.{graph, onto, entry-size, Writable, W
 // Nodes begin at 256, so that every word is an entry too.
 pub const FIRST_NODE: u16 = 256;
 
-// The length of the arrays of nodes.
+// The greatest length of the arrays of nodes.
 pub const MOST_NODES: usize = 32768;
 
 // How many words an entry is written as.

@@ -93,7 +93,7 @@ module _ (t : Tables) (ok : Lawful t) (c : ℕ) (most : c ≤ 16384) (allowed ro
 
       in-sizes : {k : ℕ} {u : Term} → Holds (actions t) g k u → 256 ≤ k → k < length sizes
       in-sizes q l =
-          omega (arith, holds-inside q few l, length-take-le (p .count) own (omega (arith, fits .own-long, fits .most-nodes)), fits .most-nodes, fits .sizes-long)
+          omega (arith, holds-inside q few l, length-take-le (p .count) own (fits .nodes-in), fits .nodes-in, fits .sizes-long)
 
       operand-sizes : {u : Term} → Root (actions t) g v (r .a) (r .b) u → SizesOf sizes v r
       operand-sizes (root-one {o} e k q) = (λ l. in-sizes q l, λ b l. absurd (omega (arith, unary-low o)))
@@ -104,11 +104,11 @@ module _ (t : Tables) (ok : Lawful t) (c : ℕ) (most : c ≤ 16384) (allowed ro
 
       pub nodes-there : Nodes (in-use (arrays own first second sizes stack todo) (p .count))
       nodes-there =
-          let a = length-take-le (p .count) own (omega (arith, fits .own-long, fits .most-nodes)) in
+          let a = length-take-le (p .count) own (fits .nodes-in) in
           record {
-            first-long = omega (arith, a, length-take-le (p .count) first (omega (arith, fits .first-long, fits .most-nodes)));
-            second-long = omega (arith, a, length-take-le (p .count) second (omega (arith, fits .second-long, fits .most-nodes)));
-            most = omega (arith, a, fits .most-nodes);
+            first-long = omega (arith, a, length-take-le (p .count) first (omega (arith, fits .first-long, fits .nodes-in)));
+            second-long = omega (arith, a, length-take-le (p .count) second (omega (arith, fits .second-long, fits .nodes-in)));
+            most = omega (arith, a, fits .nodes-in, fits .own-most);
           }
 
       -- no more words than the plan has, nor than are read with the sign
@@ -123,7 +123,7 @@ module _ (t : Tables) (ok : Lawful t) (c : ℕ) (most : c ≤ 16384) (allowed ro
       -- by the law chosen
       module _ (slots : List ℕ) (law : ℕ)
           (chosen : ChosenRoot t (actions t) (in-use (arrays own first second sizes stack todo) (p .count)) (getD todo (p .rest) 0) (r .a) (r .b) slots law) where
-        pub on-sign : law ≡ 0 → p .count < 32768 → (old : ℕ) → old ≡ size-under sizes (getD todo (p .rest) 0) r → {own′ first′ second′ sizes′ stack′ : List ℕ} {q : Progress}
+        pub on-sign : law ≡ 0 → p .count < length own → (old : ℕ) → old ≡ size-under sizes (getD todo (p .rest) 0) r → {own′ first′ second′ sizes′ stack′ : List ℕ} {q : Progress}
             → q ≡ after-sign p r → own′ ≡ set own (p .count) (getD todo (p .rest) 0) → first′ ≡ set first (p .count) (r .a)
             → second′ ≡ set second (p .count) (r .b) → sizes′ ≡ set sizes (p .count) old → stack′ ≡ set stack (r .under) (p .count)
             → AdvancedOn t c allowed room (arrays own first second sizes stack todo) (arrays own′ first′ second′ sizes′ stack′ todo) p (On q)
@@ -136,7 +136,7 @@ module _ (t : Tables) (ok : Lawful t) (c : ℕ) (most : c ≤ 16384) (allowed ro
 
         pub sizes-reach : Slots (actions t) (in-use (arrays own first second sizes stack todo) (p .count)) slots → SizesReach slots sizes
         sizes-reach q k l i =
-            omega (arith, q .entries k l i, length-take-le (p .count) own (omega (arith, fits .own-long, fits .most-nodes)), fits .most-nodes, fits .sizes-long)
+            omega (arith, q .entries k l i, length-take-le (p .count) own (fits .nodes-in), fits .nodes-in, fits .sizes-long)
 
         pub word-slots : Slots (actions t) (in-use (arrays own first second sizes stack todo) (p .count)) slots → WordSlots slots
         word-slots q k l i = go (ltb k 5) refl

@@ -82,7 +82,7 @@ module _ (t : Tables) (ok : Lawful t) (c : ℕ) (most : c ≤ 16384) (m : Arrays
       omega (arith, a, b, h .read-is, ap length (x .splits), length-append (spell (x .under)) (x .more))
 
   -- no law fits there
-  module _ (count-in : p .count < 32768) (none-fits : first-law t 5 28 (x .term) ≡ none) where
+  module _ (count-in : p .count < length (m .own)) (none-fits : first-law t 5 28 (x .term) ≡ none) where
     abbrev pub after : Arrays
     after =
         arrays (set (m .own) (p .count) v) (set (m .first) (p .count) (r .a)) (set (m .second) (p .count) (r .b))
@@ -98,7 +98,7 @@ module _ (t : Tables) (ok : Lawful t) (c : ℕ) (most : c ≤ 16384) (m : Arrays
     second = take (p .count) (m .second)
 
     own-long : length own ≡ p .count
-    own-long = length-take-le (p .count) (m .own) (omega (arith, fits .own-long))
+    own-long = length-take-le (p .count) (m .own) (omega arith)
 
     first-long : length first ≡ length own
     first-long = omega (arith, own-long, length-take-le (p .count) (m .first) (omega (arith, fits .first-long)))
@@ -112,7 +112,7 @@ module _ (t : Tables) (ok : Lawful t) (c : ℕ) (most : c ≤ 16384) (m : Arrays
     same-graph : in-use after (p .count + 1) ≡ more-nodes
     same-graph =
         rw (
-          take-set (m .own) (p .count) v (omega (arith, fits .own-long)),
+          take-set (m .own) (p .count) v count-in,
           take-set (m .first) (p .count) (r .a) (omega (arith, fits .first-long)),
           take-set (m .second) (p .count) (r .b) (omega (arith, fits .second-long)),
         )
@@ -182,16 +182,17 @@ module _ (t : Tables) (ok : Lawful t) (c : ℕ) (most : c ≤ 16384) (m : Arrays
 
     pub sign-read : (allowed room : ℕ) → Advanced t c allowed room m after p w (On (after-sign p r))
     sign-read allowed room =
+        let l = length-set (m .own) (p .count) v in
         went-on (after-sign p r)
         (record {
-          own-long = length-set (m .own) (p .count) v ∙ fits .own-long;
-          first-long = length-set (m .first) (p .count) (r .a) ∙ fits .first-long;
-          second-long = length-set (m .second) (p .count) (r .b) ∙ fits .second-long;
-          sizes-long = length-set (m .sizes) (p .count) (size-under (m .sizes) v r) ∙ fits .sizes-long;
+          own-most = omega (arith, l, fits .own-most);
+          first-long = length-set (m .first) (p .count) (r .a) ∙ fits .first-long ∙ sym l;
+          second-long = length-set (m .second) (p .count) (r .b) ∙ fits .second-long ∙ sym l;
+          sizes-long = length-set (m .sizes) (p .count) (size-under (m .sizes) v r) ∙ fits .sizes-long ∙ sym l;
           stack-long = length-set (m .stack) (r .under) (p .count) ∙ fits .stack-long;
           todo-long = fits .todo-long;
           some-nodes = omega (arith, fits .some-nodes);
-          most-nodes = omega arith;
+          nodes-in = omega (arith, l);
           rest-in = omega arith;
         })
         holding refl

@@ -164,14 +164,14 @@ module _ (t : Tables) (ok : Lawful t) (c : ℕ) (most : c ≤ 16384) (m : Arrays
           stepped k next-progress cut next l i high
           (found ∙ ap (λ (q : ℕ). some (record { law = k; place = q; plan = next })) (sym (h .read-is)))
           (record {
-            own-long = fits .own-long;
+            own-most = fits .own-most;
             first-long = fits .first-long;
             second-long = fits .second-long;
             sizes-long = fits .sizes-long;
             stack-long = fits .stack-long;
             todo-long = overwrite-length (m .todo) front side (omega (arith, fits .todo-long)) ∙ fits .todo-long;
             some-nodes = fits .some-nodes;
-            most-nodes = fits .most-nodes;
+            nodes-in = fits .nodes-in;
             rest-in = omega arith;
           })
           holding cut-of

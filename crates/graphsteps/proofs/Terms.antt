@@ -90,20 +90,20 @@ module _ (t : Tables) (ok : Lawful t) (c : ℕ) (most : c ≤ 16384) (m : Arrays
     term-read allowed room =
         went-on (after-term (m .sizes) p v)
         (record {
-          own-long = fits .own-long;
+          own-most = fits .own-most;
           first-long = fits .first-long;
           second-long = fits .second-long;
           sizes-long = fits .sizes-long;
           stack-long = length-set (m .stack) (p .height) v ∙ fits .stack-long;
           todo-long = fits .todo-long;
           some-nodes = fits .some-nodes;
-          most-nodes = fits .most-nodes;
+          nodes-in = fits .nodes-in;
           rest-in = omega arith;
         })
         holding refl (λ j x d. d)
 
   -- a node that is to be read is one of those in use
-  pub node-inside : 256 ≤ getD (m .todo) (p .rest) 0 → getD (m .todo) (p .rest) 0 < 32768
+  pub node-inside : 256 ≤ getD (m .todo) (p .rest) 0 → getD (m .todo) (p .rest) 0 < length (m .own)
   node-inside l =
       let k = node-term l (next-entry .written) in
-      omega (arith, holds-inside (k .holds) few l, length-take-le (p .count) (m .own) (omega (arith, fits .own-long, fits .most-nodes)), fits .most-nodes)
+      omega (arith, holds-inside (k .holds) few l, length-take-le (p .count) (m .own) (fits .nodes-in), fits .nodes-in)

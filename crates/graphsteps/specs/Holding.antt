@@ -38,16 +38,16 @@ arrays own first second sizes stack todo =
 abbrev pub in-use : Arrays → ℕ → Graph
 in-use m count = graph (take count (m .own)) (take count (m .first)) (take count (m .second))
 
--- the arrays have their lengths, and what is in use is within them
+-- the arrays have their lengths, those of nodes all the same, and what is in use is within them
 pub record Fits (m : Arrays) (p : Progress) : Type 0 where
-  pub own-long : length (m .own) ≡ 32768
-  pub first-long : length (m .first) ≡ 32768
-  pub second-long : length (m .second) ≡ 32768
-  pub sizes-long : length (m .sizes) ≡ 32768
+  pub own-most : length (m .own) ≤ 32768
+  pub first-long : length (m .first) ≡ length (m .own)
+  pub second-long : length (m .second) ≡ length (m .own)
+  pub sizes-long : length (m .sizes) ≡ length (m .own)
   pub stack-long : length (m .stack) ≡ 16384
   pub todo-long : length (m .todo) ≡ 16384
   pub some-nodes : 256 ≤ p .count
-  pub most-nodes : p .count ≤ 32768
+  pub nodes-in : p .count ≤ length (m .own)
   pub rest-in : p .rest ≤ 16384
 
 -- they hold the plan w, of at most c words

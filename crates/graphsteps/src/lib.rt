@@ -1,7 +1,6 @@
 // The unfolding's steps on a graph of terms. Terms that are read stand on a stack as entries, free of redexes; entries still to read wait at the
 // end of another array. A right side is put in as entries, its letters not written out, so that a step costs the words of its law alone.
 use graph::FIRST_NODE;
-use graph::MOST_NODES;
 ghost use mathlib.Core.Path.{_≡_};
 ghost use Prim.Native.Nat.{_+_, _≤_, _<_};
 ghost use lib.ListN.{length, set};
@@ -142,8 +141,8 @@ fn read_sign(
     operands: Operands,
     size: usize,
 ) -> Progress
-    requires { ⌜ (length (now own) ≡ 32768) × (length (now first) ≡ 32768) × (length (now second) ≡ 32768) × (length (now sizes) ≡ 32768) × (length (now stack) ≡ 16384) ⌝ }
-    requires { ⌜ (progress .count < 32768) × (progress .rest < 16384) × (progress .read ≤ 16384) × (operands .under < 16384) × (size < 65536) ⌝ }
+    requires { ⌜ (length (now own) ≤ 32768) × (length (now first) ≡ length (now own)) × (length (now second) ≡ length (now own)) × (length (now sizes) ≡ length (now own)) × (length (now stack) ≡ 16384) ⌝ }
+    requires { ⌜ (progress .count < length (now own)) × (progress .rest < 16384) × (progress .read ≤ 16384) × (operands .under < 16384) × (size < 65536) ⌝ }
     ensures { λ r. ⌜ (r ≡ after-sign progress operands) × (now (own .exit) ≡ set (now (own .entry)) (progress .count) word) × (now (first .exit) ≡ set (now (first .entry)) (progress .count) (operands .a)) × (now (second .exit) ≡ set (now (second .entry)) (progress .count) (operands .b)) × (now (sizes .exit) ≡ set (now (sizes .entry)) (progress .count) size) × (now (stack .exit) ≡ set (now (stack .entry)) (operands .under) (progress .count)) ⌝ }
 {
     let count = progress.count;
@@ -201,7 +200,7 @@ pub fn advance(
         &mut *slots,
     );
     if law == 0 {
-        if count == MOST_NODES {
+        if count == own.len() {
             return Advancing::Stuck;
         }
         return Advancing::On(read_sign(

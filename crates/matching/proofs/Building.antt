@@ -114,7 +114,7 @@ module _ (f g ws : List ℕ) (i : ℕ) where
   unfolding sized
   size-end h = rw (drop-of-length-le ws h)
 
-pub part-length : (plan : List ℕ) (a b : ℕ) → a ≤ b → b ≤ length plan → length (part a b plan) ≡ b - a
+part-length : (plan : List ℕ) (a b : ℕ) → a ≤ b → b ≤ length plan → length (part a b plan) ≡ b - a
 part-length plan a b h l = length-take-le (b - a) (drop a plan) (rw (length-drop a plan) (omega arith))
 
 one-size : (c : ℕ) (plan f g : List ℕ) → Reaches plan f g → (w : ℕ) → length (spelled-one c plan f g w) ≡ width f g w

@@ -4,19 +4,26 @@ use mathlib.Core.Path.{_≡_, ap}
 use mathlib.Core.Bool.{Bool, true, _&&_}
 use mathlib.Core.List.{List, [], _∷_, _++_, append-assoc, append-nil}
 use native.Mathlib.Omega.{arith}
-use lib.ListN.{getD}
+use lib.ListN.{length, getD}
 use lib.Dec.{ltb, leb}
 use borrow.Author.Tests.{ltb-true, leb-true}
 use Rattle.tables.specs.Tables.{Tables, communication}
 use Rattle.plans.specs.Word.{binary-word, unary-word}
-use Rattle.plans.specs.Term.{Term, words}
+use Rattle.plans.specs.Term.{Term, act, words}
 use Rattle.plans.proofs.Words.{binary-range}
 use Rattle.graph.specs.Graph.{Graph, Holds, leaf, one, two, Written, as-word, as-term, ToRead, read-none, read-more}
 use Rattle.laws.specs.Laws.{Pattern, any, any-action, δ, entry, node, θ, ∂, Binding, number, build}
 use Rattle.matching.specs.Right.{forth}
-use Rattle.matching.specs.Slots.{Bound, entries-for}
+use Rattle.matching.specs.Slots.{entries-for}
 use Rattle.matching.proofs.Table.{and-left, and-right}
 use Rattle.matching.proofs.Entries.{entry-word, entry-letter, entry-table, entries-append}
+
+-- Six slots: x, y, z have entries that stand for terms, a and b are actions, and the last is ∂'s word, which tells its set.
+pub record Bound (n : ℕ) (g : Graph) (slots : List ℕ) (s : Binding) : Type 0 where
+  pub long : length slots ≡ 6
+  pub term : (k : ℕ) → k < 3 → Holds n g (getD slots k 0) (s k)
+  pub action : (k : ℕ) → 3 ≤ k → k < 5 → (s k ≡ act (getD slots k 0)) × (getD slots k 0 ≤ n)
+  pub set : (getD slots 5 0 ≡ 80 + number (s 5)) × (number (s 5) ≤ 7)
 
 -- An entry of a term is written as its words.
 holds-written : {n : ℕ} {g : Graph} {v : ℕ} {u : Term} → n ≤ 31 → Holds n g v u → Written n g v (words u)

@@ -1,4 +1,4 @@
--- A right side as entries: how many words it comes to, by the weights of its letters, and how entries are put into an area.
+-- A right side as entries: how many words it comes to, by the counts of its letters, and how entries are put into an area.
 use Prim.Native.Nat.{ℕ, zero, suc, _+_, _-_, _*_, _≤_, _<_}
 use mathlib.Core.Path.{_≡_, refl, sym, _∙_}
 use mathlib.Core.Bool.{Bool, true, false}
@@ -13,10 +13,10 @@ use Rattle.areas.proofs.Area.{overwrite-one, overwrite-two, overwrite-length}
 use Rattle.plans.specs.Word.{binary-word}
 use Rattle.graph.specs.Graph.{entry-size}
 use Rattle.laws.specs.Laws.{law-at, laws}
-use Rattle.matching.specs.declared.side.Weights.{Weights}
+use Rattle.matching.specs.declared.side.Counts.{Counts}
 use Rattle.matching.specs.Right.{forth}
 use Rattle.matching.specs.Slots.{entry-for, entries-for, entries-size, WordSlots, SideSize}
-use Rattle.matching.specs.Redexes.{count-of, others-of, weights-at}
+use Rattle.matching.specs.Redexes.{count-of, others-of, counts-at}
 use Rattle.matching.proofs.Table.{passes, passed}
 
 -- What a word of a right side is as an entry.
@@ -61,8 +61,8 @@ kind-of w = go (ltb w 96) (eqb w 96) (eqb w 97) (eqb w 98) refl refl refl refl
 
 -- The words that a right side comes to, by how often x, y and z stand in it.
 module _ (slots sizes : List ℕ) where
-  abbrev weighed : List ℕ → ℕ
-  weighed ws =
+  abbrev counted : List ℕ → ℕ
+  counted ws =
       count-of 96 ws * entry-size sizes (getD slots 0 0) + count-of 97 ws * entry-size sizes (getD slots 1 0) + count-of 98 ws * entry-size sizes (getD slots 2 0)
       + others-of ws
 
@@ -78,14 +78,14 @@ module _ (slots sizes : List ℕ) where
         go true e = rw (entry-letter c slots w (omega arith) (ltb-true w 102 e)) (plain (w - 96) (omega arith) (omega (arith, ltb-true w 102 e)))
         go false e = rw (entry-table c slots w (ltb-false w 102 e)) few
 
-    weighed-more : (w : ℕ) (ws : List ℕ) → Kind w → entries-size sizes (entries-for c slots ws) ≡ weighed ws → entries-size sizes (entries-for c slots (w ∷ ws)) ≡ weighed (w ∷ ws)
+    counted-more : (w : ℕ) (ws : List ℕ) → Kind w → entries-size sizes (entries-for c slots ws) ≡ counted ws → entries-size sizes (entries-for c slots (w ∷ ws)) ≡ counted (w ∷ ws)
     unfolding entry-for entries-for entries-size count-of others-of
-    weighed-more w ws is-x e = omega (arith, e, suc-mul (count-of 96 ws) (entry-size sizes (getD slots 0 0)))
-    weighed-more w ws is-y e = omega (arith, e, suc-mul (count-of 97 ws) (entry-size sizes (getD slots 1 0)))
-    weighed-more w ws is-z e = omega (arith, e, suc-mul (count-of 98 ws) (entry-size sizes (getD slots 2 0)))
-    weighed-more w ws (is-sign h) e =
+    counted-more w ws is-x e = omega (arith, e, suc-mul (count-of 96 ws) (entry-size sizes (getD slots 0 0)))
+    counted-more w ws is-y e = omega (arith, e, suc-mul (count-of 97 ws) (entry-size sizes (getD slots 1 0)))
+    counted-more w ws is-z e = omega (arith, e, suc-mul (count-of 98 ws) (entry-size sizes (getD slots 2 0)))
+    counted-more w ws (is-sign h) e =
         rw (ne-eqb w 96 (λ q. omega arith), ne-eqb w 97 (λ q. omega arith), ne-eqb w 98 (λ q. omega arith), lt-ltb w 96 h, word-size w (omega arith)) (omega (arith, e))
-    weighed-more w ws (is-other h) e =
+    counted-more w ws (is-other h) e =
         rw (
           word-size (entry-for c slots w) (other-small w h),
           ne-eqb w 96 (λ q. omega arith),
@@ -96,24 +96,24 @@ module _ (slots sizes : List ℕ) where
         )
         (omega (arith, e))
 
-    weighed-size : (ws : List ℕ) → entries-size sizes (entries-for c slots ws) ≡ weighed ws
+    counted-size : (ws : List ℕ) → entries-size sizes (entries-for c slots ws) ≡ counted ws
     unfolding entries-for entries-size count-of others-of
-    weighed-size [] = omega arith
-    weighed-size (w ∷ ws) = weighed-more w ws (kind-of w) (weighed-size ws)
+    counted-size [] = omega arith
+    counted-size (w ∷ ws) = counted-more w ws (kind-of w) (counted-size ws)
 
 -- No right side has more than 11 words and letters.
 few? : ℕ → Bool
-few? k = leb (weights-at (suc k) .x + weights-at (suc k) .y + weights-at (suc k) .z + weights-at (suc k) .own) 11
+few? k = leb (counts-at (suc k) .x + counts-at (suc k) .y + counts-at (suc k) .z + counts-at (suc k) .others) 11
 
 all-few : passes few? 32 ≡ true
-unfolding few? weights-at count-of others-of forth law-at laws binary-word
+unfolding few? counts-at count-of others-of forth law-at laws binary-word
 all-few = refl
 
-weights-few : {law : ℕ} {w : Weights} → 1 ≤ law → law ≤ 32 → w ≡ weights-at law → w .x + w .y + w .z + w .own ≤ 11
+counts-few : {law : ℕ} {w : Counts} → 1 ≤ law → law ≤ 32 → w ≡ counts-at law → w .x + w .y + w .z + w .others ≤ 11
 unfolding few?
-weights-few {law} h l e =
+counts-few {law} h l e =
     let s : suc (law - 1) ≡ law = omega arith in
-    let q : weights-at (suc (law - 1)) .x + weights-at (suc (law - 1)) .y + weights-at (suc (law - 1)) .z + weights-at (suc (law - 1)) .own ≤ 11 =
+    let q : counts-at (suc (law - 1)) .x + counts-at (suc (law - 1)) .y + counts-at (suc (law - 1)) .z + counts-at (suc (law - 1)) .others ≤ 11 =
     leb-true _ 11 (passed few? 32 all-few (law - 1) (omega arith)) in
     rw e (rw s at q)
 
@@ -122,14 +122,14 @@ times-most : (n : ℕ) {size : ℕ} → size < 65536 → n * size ≤ n * 65535
 times-most n {size} h = let m : size ≤ 65535 = omega arith in mul-le-mul-left n m
 
 -- The sum of the letters' sizes, each as often as its weight says, and of the other words is how many words a right side comes to.
-module _ (law : ℕ) (slots sizes : List ℕ) (w : Weights) (x y z : ℕ) (h : 1 ≤ law) (l : law ≤ 32) (e : w ≡ weights-at law) (plain : WordSlots slots) where
-  pub side-weighed : (x ≡ entry-size sizes (getD slots 0 0)) × (x < 65536) → (y ≡ entry-size sizes (getD slots 1 0)) × (y < 65536)
+module _ (law : ℕ) (slots sizes : List ℕ) (w : Counts) (x y z : ℕ) (h : 1 ≤ law) (l : law ≤ 32) (e : w ≡ counts-at law) (plain : WordSlots slots) where
+  pub side-counted : (x ≡ entry-size sizes (getD slots 0 0)) × (x < 65536) → (y ≡ entry-size sizes (getD slots 1 0)) × (y < 65536)
       → (z ≡ entry-size sizes (getD slots 2 0)) × (z < 65536)
-      → SideSize law slots sizes (w .x * x + w .y * y + w .z * z + w .own) × (w .x * x + w .y * y + w .z * z + w .own < 1000000)
-  unfolding weights-at
-  side-weighed a b d = (
-    record { side-size = λ c f. rw (e, a .0, b .0, d .0) (sym (weighed-size slots sizes c f plain (forth (law-at law .rhs)))) },
-    omega (arith, times-most (w .x) (a .1), times-most (w .y) (b .1), times-most (w .z) (d .1), weights-few h l e),
+      → SideSize law slots sizes (w .x * x + w .y * y + w .z * z + w .others) × (w .x * x + w .y * y + w .z * z + w .others < 1000000)
+  unfolding counts-at
+  side-counted a b d = (
+    record { side-size = λ c f. rw (e, a .0, b .0, d .0) (sym (counted-size slots sizes c f plain (forth (law-at law .rhs)))) },
+    omega (arith, times-most (w .x) (a .1), times-most (w .y) (b .1), times-most (w .z) (d .1), counts-few h l e),
   )
 
 -- Words written into an area one after another, from place k + i on.

@@ -12,11 +12,15 @@ use Rattle.plans.specs.Term.{Term, act}
 use Rattle.graph.specs.Graph.{Graph, Holds, leaf}
 use Rattle.graph.proofs.Reading.{holds-inside}
 use Rattle.laws.specs.Laws.{laws, law-at, Binding, build}
-use Rattle.matching.specs.Slots.{Bound, Entry, side-entries, ChosenAt, none-at, chosen-at, Slots}
-use Rattle.matching.specs.Redexes.{no-redex, slots-of}
+use Rattle.matching.specs.Slots.{Entry, side-entries, ChosenAt, none-at, chosen-at, Slots}
+use Rattle.matching.specs.Redexes.{no-redex}
 use Rattle.matching.specs.declared.root.Redex.{Redex}
 use Rattle.matching.proofs.Table.{passes, passed}
-use Rattle.matching.proofs.BuildingAt.{lettered, built-at}
+use Rattle.matching.proofs.BuildingAt.{Bound, lettered, built-at}
+
+-- the letters of a redex in six slots
+abbrev pub slots-of : Redex → List ℕ
+slots-of r = r .x ∷ (r .y ∷ (r .z ∷ (r .a ∷ (r .b ∷ (r .set ∷ [])))))
 
 -- What the letters stand for: x, y and z terms, a and b actions, and the last the set of ∂.
 abbrev pub letters : Term → Term → Term → ℕ → ℕ → ℕ → Binding

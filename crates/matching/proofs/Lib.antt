@@ -6,7 +6,7 @@ mod Matching
 mod Building
 pub mod Sides
 mod Rewriting
-pub mod Choosing
+mod Choosing
 mod LawTables
 mod Writing
 mod Entries

@@ -46,7 +46,7 @@ module _ {n : ℕ} {g : Graph} (few : n ≤ 31) where
       rw (le-ltb v 256 i, e) (seen-one (ne-eqb (unary-word o) 0 (λ q. omega arith)) (ne-eqb (unary-word o) 64 (λ q. omega arith)) (ne-eqb (unary-word o) 65 (λ q. omega arith)))
   seen (two {v} {o} i j e h l) = rw (le-ltb v 256 i, e) (seen-node o h l)
 
-  -- what is under a word 0 is an action
+  -- what is under a word 0 is a word
   pub small : {v : ℕ} {p : Operand} {u : Term} → Seen n g v p u → Small p
   small (seen-action h) e = omega arith
   small (seen-sum h l) e = absurd (omega arith)

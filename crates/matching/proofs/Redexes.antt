@@ -12,13 +12,13 @@ use Rattle.plans.specs.Term.{Term}
 use Rattle.graph.specs.Graph.{Graph, Holds, Root, root-one, root-two}
 use Rattle.matching.specs.Choice.{first-law}
 use Rattle.matching.specs.Slots.{RootTerm, ChosenRoot, Slots}
-use Rattle.matching.specs.Redexes.{operand-of, Small, redex-of, slots-of, encapsulation-redex}
+use Rattle.matching.specs.Redexes.{operand-of, Small, redex-of, encapsulation-redex}
 use Rattle.matching.proofs.Operands.{seen, small}
-use Rattle.matching.proofs.Letters.{Told, told-chosen, told-slots}
+use Rattle.matching.proofs.Letters.{slots-of, Told, told-chosen, told-slots}
 use Rattle.matching.proofs.OneOperand.{choice-told, merge-told, sequence-told, left-merge-told, priority-told, encapsulation-told}
 use Rattle.matching.proofs.TwoOperands.{communication-told, unless-told}
 
--- what is under a word 0 is an action
+-- what is under a word 0 is a word
 pub operand-small : {n : ℕ} {g : Graph} {v : ℕ} {u : Term} → n ≤ 31 → Holds n g v u → Small (operand-of g v)
 operand-small few h = small few (seen few h)
 

@@ -12,7 +12,7 @@ use Rattle.plans.proofs.Words.{unary-low}
 use Rattle.graph.specs.Graph.{Graph, Holds, Root, root-one, root-two}
 use Rattle.matching.specs.declared.root.Redex.{Redex}
 use Rattle.matching.specs.Slots.{RootTerm}
-use Rattle.matching.specs.Redexes.{slots-of}
+use Rattle.matching.proofs.Letters.{slots-of}
 
 module _ {n : ℕ} {g : Graph} {w a b : ℕ} where
   pub first-operand : RootTerm n g w a b → (u : Term) × Holds n g a u

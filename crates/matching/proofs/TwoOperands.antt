@@ -23,7 +23,7 @@ use Rattle.matching.proofs.Letters.{Told, told-none}
 use Rattle.matching.proofs.OneOperand.{stop-held, plans-told, actions-told}
 
 -- a term that neither is a sum nor begins with an action
-record Idle (u : Term) : Type 0 where
+record NoBeginning (u : Term) : Type 0 where
   no-action : (k : ℕ) (s : Binding) → fit (any-action k) u s ≡ none
   no-sum : (p q : Pattern) (s : Binding) → fit (node Choice p q) u s ≡ none
   no-begin : (k m : ℕ) (s : Binding) → fit (node Sequence (any-action k) (any m)) u s ≡ none
@@ -33,29 +33,29 @@ data Begun (n : ℕ) (g : Graph) : Operand → Term → Type 0 where
   begun-action : {v : ℕ} → v ≤ n → Begun n g (operand 0 v v) (act v)
   begun-product : {i j : ℕ} {y : Term} → i ≤ n → ltb i 256 ≡ true → Holds n g j y → Begun n g (operand 65 i j) (bin Sequence (act i) y)
   begun-sum : {i j : ℕ} {x y : Term} → Holds n g i x → Holds n g j y → Begun n g (operand 64 i j) (bin Choice x y)
-  begun-not : (s i j : ℕ) {u : Term} → begins-with-action (operand s i j) ≡ false → eqb s 64 ≡ false → Idle u → Begun n g (operand s i j) u
+  begun-not : (s i j : ℕ) {u : Term} → begins-with-action (operand s i j) ≡ false → eqb s 64 ≡ false → NoBeginning u → Begun n g (operand s i j) u
 
-idle-one : (o : Unary) (x : Term) → Idle (un o x)
+none-begins-one : (o : Unary) (x : Term) → NoBeginning (un o x)
 unfolding fit
-idle-one o x = record { no-action = λ k s. refl; no-sum = λ p q s. refl; no-begin = λ k m s. refl }
+none-begins-one o x = record { no-action = λ k s. refl; no-sum = λ p q s. refl; no-begin = λ k m s. refl }
 
-idle-two : (o : Binary) (x y : Term) → eqb (binary-word o) 64 ≡ false → eqb (binary-word o) 65 ≡ false → Idle (bin o x y)
+none-begins-two : (o : Binary) (x y : Term) → eqb (binary-word o) 64 ≡ false → eqb (binary-word o) 65 ≡ false → NoBeginning (bin o x y)
 unfolding fit binary-word
-idle-two o x y f d = record { no-action = λ k s. refl; no-sum = λ p q s. rw f; no-begin = λ k m s. rw d }
+none-begins-two o x y f d = record { no-action = λ k s. refl; no-sum = λ p q s. rw f; no-begin = λ k m s. rw d }
 
-idle-product : (x y : Term) → ((k : ℕ) (s : Binding) → fit (any-action k) x s ≡ none) → Idle (bin Sequence x y)
+none-begins-product : (x y : Term) → ((k : ℕ) (s : Binding) → fit (any-action k) x s ≡ none) → NoBeginning (bin Sequence x y)
 unfolding fit binary-word
-idle-product x y other = record { no-action = λ k s. refl; no-sum = λ p q s. refl; no-begin = λ k m s. other k _ }
+none-begins-product x y other = record { no-action = λ k s. refl; no-sum = λ p q s. refl; no-begin = λ k m s. other k _ }
 
 begun : {n : ℕ} {g : Graph} {v : ℕ} {p : Operand} {u : Term} → n ≤ 31 → Seen n g v p u → Begun n g p u
 unfolding begins-with-action fit
 begun few (seen-action h) = begun-action h
 begun few (seen-sum h l) = begun-sum h l
 begun few (seen-product (leaf {a} h) l) = begun-product h (lt-ltb a 256 (omega arith)) l
-begun few (seen-product {j} (one {v} h k e c d) l) = begun-not 65 v j (rw (le-ltb v 256 h)) refl (idle-product _ _ (λ k s. refl))
-begun few (seen-product {j} (two {v} h k e c d) l) = begun-not 65 v j (rw (le-ltb v 256 h)) refl (idle-product _ _ (λ k s. refl))
-begun few (seen-one {s} {i} {j} e f d) = begun-not s i j (rw (e, d)) f (idle-one _ _)
-begun few (seen-two {i} {j} {o} e f d) = begun-not (binary-word o) i j (rw (e, d)) f (idle-two o _ _ f d)
+begun few (seen-product {j} (one {v} h k e c d) l) = begun-not 65 v j (rw (le-ltb v 256 h)) refl (none-begins-product _ _ (λ k s. refl))
+begun few (seen-product {j} (two {v} h k e c d) l) = begun-not 65 v j (rw (le-ltb v 256 h)) refl (none-begins-product _ _ (λ k s. refl))
+begun few (seen-one {s} {i} {j} e f d) = begun-not s i j (rw (e, d)) f (none-begins-one _ _)
+begun few (seen-two {i} {j} {o} e f d) = begun-not (binary-word o) i j (rw (e, d)) f (none-begins-two o _ _ f d)
 
 module _ (t : Tables) {n : ℕ} {g : Graph} where
   -- x | y

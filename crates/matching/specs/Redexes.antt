@@ -10,7 +10,7 @@ use Rattle.graph.specs.Graph.{Graph}
 use Rattle.laws.specs.Laws.{law-at}
 use Rattle.matching.specs.declared.root.Operand.{Operand}
 use Rattle.matching.specs.declared.root.Redex.{Redex}
-use Rattle.matching.specs.declared.side.Weights.{Weights}
+use Rattle.matching.specs.declared.side.Counts.{Counts}
 use Rattle.matching.specs.Right.{forth}
 
 -- an operand: the word at its root and the entries under it; for an action the word is 0, and the action stands for the entries
@@ -18,7 +18,7 @@ unfoldable pub operand-of : Graph → ℕ → Operand
 operand-of g v =
     cond (ltb v 256) (record { sign = 0; first = v; second = v }) (record { sign = getD (g .own) v 0; first = getD (g .first) v 0; second = getD (g .second) v 0 })
 
--- what is under a word 0 is an action
+-- what is under a word 0 is a word
 abbrev pub Small : Operand → Type 0
 Small p = p .sign ≡ 0 → p .first < 256
 
@@ -95,7 +95,7 @@ encapsulation-redex t w p =
     (cond (eqb (p .sign) 65) (on-set 23 w 0 (p .first) (p .second))
     (cond (eqb (p .sign) 0) (cond (blocked t (w - 80) (p .first)) (on-set 21 w (p .first) 0 0) (on-set 20 w (p .first) 0 0)) no-redex))
 
--- by the operator's word w, over the operands a and b
+-- by the operator's word w, over the operands a and b; a word that is none of 64 to 70 counts as ∂'s
 unfoldable pub redex-of : Tables → Graph → ℕ → ℕ → ℕ → Redex
 redex-of t g w a b =
     cond (eqb w 64) (choice-redex a b)
@@ -106,10 +106,6 @@ redex-of t g w a b =
     (cond (eqb w 69) (unless-redex t a b (operand-of g a) (operand-of g b))
     (cond (eqb w 70) (priority-redex (operand-of g a)) (encapsulation-redex t w (operand-of g a))))))))
 
--- its letters in six slots
-abbrev pub slots-of : Redex → List ℕ
-slots-of r = r .x ∷ (r .y ∷ (r .z ∷ (r .a ∷ (r .b ∷ (r .set ∷ [])))))
-
 -- how often a word stands in a right side; how many words stand there beside the letters x, y and z
 unfoldable pub count-of : ℕ → List ℕ → ℕ
 count-of k [] = 0
@@ -119,10 +115,10 @@ unfoldable pub others-of : List ℕ → ℕ
 others-of [] = 0
 others-of (w ∷ ws) = cond (ltb w 96) (suc (others-of ws)) (cond (ltb w 99) (others-of ws) (suc (others-of ws)))
 
-abbrev pub weights : ℕ → ℕ → ℕ → ℕ → Weights
-weights x y z own = record { x = x; y = y; z = z; own = own }
+abbrev pub counts : ℕ → ℕ → ℕ → ℕ → Counts
+counts x y z others = record { x = x; y = y; z = z; others = others }
 
 -- how often x, y and z stand in the right side of law k, and how many other words
-unfoldable pub weights-at : ℕ → Weights
-weights-at k =
-    weights (count-of 96 (forth (law-at k .rhs))) (count-of 97 (forth (law-at k .rhs))) (count-of 98 (forth (law-at k .rhs))) (others-of (forth (law-at k .rhs)))
+unfoldable pub counts-at : ℕ → Counts
+counts-at k =
+    counts (count-of 96 (forth (law-at k .rhs))) (count-of 97 (forth (law-at k .rhs))) (count-of 98 (forth (law-at k .rhs))) (others-of (forth (law-at k .rhs)))

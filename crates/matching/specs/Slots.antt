@@ -7,18 +7,11 @@ use mathlib.Core.Option.{Option, none, some}
 use lib.ListN.{length, getD}
 use lib.Dec.{ltb}
 use Rattle.tables.specs.Tables.{Tables, communication}
-use Rattle.plans.specs.Term.{Term, act, words}
-use Rattle.laws.specs.Laws.{Binding, number, law-at}
-use Rattle.graph.specs.Graph.{Graph, Holds, Root, ToRead, entry-size}
+use Rattle.plans.specs.Term.{Term, words}
+use Rattle.laws.specs.Laws.{law-at}
+use Rattle.graph.specs.Graph.{Graph, Root, ToRead, entry-size}
 use Rattle.matching.specs.Right.{forth}
 use Rattle.matching.specs.Choice.{first-law}
-
--- Six slots: x, y, z have entries that stand for terms, a and b are actions, and the last is ∂'s word, which tells its set.
-pub record Bound (n : ℕ) (g : Graph) (slots : List ℕ) (s : Binding) : Type 0 where
-  pub long : length slots ≡ 6
-  pub term : (k : ℕ) → k < 3 → Holds n g (getD slots k 0) (s k)
-  pub action : (k : ℕ) → 3 ≤ k → k < 5 → (s k ≡ act (getD slots k 0)) × (getD slots k 0 ≤ n)
-  pub set : (getD slots 5 0 ≡ 80 + number (s 5)) × (number (s 5) ≤ 7)
 
 -- a node's entry is one of the graph
 abbrev pub Entry : Graph → ℕ → Type 0
@@ -54,7 +47,7 @@ pub data ChosenAt (t : Tables) (n : ℕ) (g : Graph) (slots : List ℕ) : Option
 pub record ChosenRoot (t : Tables) (n : ℕ) (g : Graph) (w a b : ℕ) (slots : List ℕ) (r : ℕ) : Type 0 where
   pub chosen-root : (u : Term) → Root n g w a b u → ChosenAt t n g slots (first-law t 5 28 u) r
 
--- slots that a law was matched into, whichever it was: what they hold are entries of the graph, and two actions
+-- slots as a redex fills them: what they hold are entries of the graph, two actions and a word of ∂
 pub record Slots (n : ℕ) (g : Graph) (slots : List ℕ) : Type 0 where
   pub long : length slots ≡ 6
   pub entries : (k : ℕ) → k < 6 → 256 ≤ getD slots k 0 → getD slots k 0 < length (g .own)

@@ -1,7 +1,7 @@
 // The conditions of the laws, on the words that a left side's letters reach over.
 use crate::same_words;
 ghost use mathlib.Core.Path.{_≡_};
-ghost use Prim.Native.Nat.{_≤_, _<_};
+ghost use Prim.Native.Nat.{_<_};
 ghost use lib.ListN.{length};
 ghost use Rattle.tables.specs.Tables.{blocked, below};
 ghost use Rattle.laws.specs.Laws.{same-bytes};

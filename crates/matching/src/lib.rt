@@ -1,6 +1,7 @@
 // The thirty-two laws in code: whether a law fits at a plan's last word, the lowest law that fits there, and its right side written out.
 // A layer for the crates above: its functions ask that the words can be read and that the starts of their subplans are right.
-// Letters are noted in two arrays of seven: x, y, z, a, b and the set of ∂ reach from from[k] up to to[k], and signs write to the seventh.
+// On words, letters are noted in two arrays of seven: x, y, z, a, b and the set of ∂ reach from from[k] up to to[k], and signs write to the
+// seventh. On a graph, they are in six slots: the entries of x, y and z, the actions a and b, and ∂'s word.
 mod condition;
 mod left;
 mod right;
@@ -177,11 +178,11 @@ pub fn entries_len(law: u8, slots: &[u16], sizes: &[u16]) -> usize
     requires { ⌜ SizesReach (now slots) (now sizes) × WordSlots (now slots) ⌝ }
     ensures { λ r. ⌜ SideSize law (now (slots .entry)) (now (sizes .entry)) r × (r < 1000000) ⌝ }
 {
-    let weights = side::weights_of(law);
+    let counts = side::counts_of(law);
     let x = graph::size_of(sizes, slots[0]);
     let y = graph::size_of(sizes, slots[1]);
     let z = graph::size_of(sizes, slots[2]);
-    weights.x as usize * x + weights.y as usize * y + weights.z as usize * z + weights.own as usize
+    counts.x as usize * x + counts.y as usize * y + counts.z as usize * z + counts.others as usize
 }
 
 // Puts the right side of a law, as entries, before the entries still to read; where it begins.

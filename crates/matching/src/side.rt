@@ -4,60 +4,61 @@ ghost use mathlib.Core.List.{_∷_, []};
 ghost use Prim.Native.Nat.{_+_, _≤_};
 ghost use lib.ListN.{length};
 ghost use Rattle.areas.specs.Area.{overwrite};
-ghost use Rattle.matching.specs.Redexes.{weights-at, weights};
+ghost use Rattle.matching.specs.Redexes.{counts-at, counts};
 
 // How often x, y and z stand in a right side, and how many other words.
-pub struct Weights {
+pub struct Counts {
     pub x: u8,
     pub y: u8,
     pub z: u8,
-    pub own: u8,
+    pub others: u8,
 }
 
-fn weigh(x: u8, y: u8, z: u8, own: u8) -> Weights
-    ensures { λ r. ⌜ r ≡ weights x y z own ⌝ }
+// Counts, one after another.
+fn counted(x: u8, y: u8, z: u8, others: u8) -> Counts
+    ensures { λ r. ⌜ r ≡ counts x y z others ⌝ }
 {
-    Weights { x, y, z, own }
+    Counts { x, y, z, others }
 }
 
-// The weights of the right side of a law.
-pub fn weights_of(law: u8) -> Weights
+// How often they stand in the right side of a law.
+pub fn counts_of(law: u8) -> Counts
     requires { ⌜ (1 ≤ law) × (law ≤ 32) ⌝ }
-    ensures { λ r. ⌜ r ≡ weights-at law ⌝ }
+    ensures { λ r. ⌜ r ≡ counts-at law ⌝ }
 {
     match law {
-        1 => weigh(1, 1, 0, 1),
-        2 => weigh(1, 1, 1, 2),
-        3 => weigh(1, 1, 1, 2),
-        4 => weigh(1, 0, 0, 0),
-        5 => weigh(1, 1, 2, 3),
-        6 => weigh(1, 1, 1, 2),
-        7 => weigh(1, 0, 0, 0),
-        8 => weigh(1, 0, 0, 0),
-        9 => weigh(0, 0, 0, 1),
-        10 => weigh(0, 0, 0, 1),
-        11 => weigh(3, 3, 0, 5),
-        12 => weigh(1, 0, 0, 2),
-        13 => weigh(1, 1, 0, 3),
-        14 => weigh(1, 1, 2, 3),
-        15 => weigh(1, 0, 0, 4),
-        16 => weigh(1, 0, 0, 4),
-        17 => weigh(1, 1, 0, 5),
-        18 => weigh(1, 1, 2, 3),
-        19 => weigh(2, 1, 1, 3),
-        20 => weigh(0, 0, 0, 1),
-        21 => weigh(0, 0, 0, 1),
-        22 => weigh(1, 1, 0, 3),
-        23 => weigh(1, 1, 0, 3),
-        24 => weigh(0, 0, 0, 1),
-        25 => weigh(0, 0, 0, 1),
-        26 => weigh(1, 1, 0, 1),
-        27 => weigh(1, 1, 1, 2),
-        28 => weigh(1, 1, 1, 2),
-        29 => weigh(1, 1, 2, 3),
-        30 => weigh(0, 0, 0, 1),
-        31 => weigh(1, 1, 0, 3),
-        _ => weigh(2, 2, 0, 5),
+        1 => counted(1, 1, 0, 1),
+        2 => counted(1, 1, 1, 2),
+        3 => counted(1, 1, 1, 2),
+        4 => counted(1, 0, 0, 0),
+        5 => counted(1, 1, 2, 3),
+        6 => counted(1, 1, 1, 2),
+        7 => counted(1, 0, 0, 0),
+        8 => counted(1, 0, 0, 0),
+        9 => counted(0, 0, 0, 1),
+        10 => counted(0, 0, 0, 1),
+        11 => counted(3, 3, 0, 5),
+        12 => counted(1, 0, 0, 2),
+        13 => counted(1, 1, 0, 3),
+        14 => counted(1, 1, 2, 3),
+        15 => counted(1, 0, 0, 4),
+        16 => counted(1, 0, 0, 4),
+        17 => counted(1, 1, 0, 5),
+        18 => counted(1, 1, 2, 3),
+        19 => counted(2, 1, 1, 3),
+        20 => counted(0, 0, 0, 1),
+        21 => counted(0, 0, 0, 1),
+        22 => counted(1, 1, 0, 3),
+        23 => counted(1, 1, 0, 3),
+        24 => counted(0, 0, 0, 1),
+        25 => counted(0, 0, 0, 1),
+        26 => counted(1, 1, 0, 1),
+        27 => counted(1, 1, 1, 2),
+        28 => counted(1, 1, 1, 2),
+        29 => counted(1, 1, 2, 3),
+        30 => counted(0, 0, 0, 1),
+        31 => counted(1, 1, 0, 3),
+        _ => counted(2, 2, 0, 5),
     }
 }
 

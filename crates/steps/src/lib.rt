@@ -9,7 +9,7 @@ ghost use Rattle.tables.specs.Tables.{actions};
 ghost use Rattle.tables.specs.Lawful.{Lawful};
 ghost use Rattle.matching.specs.Right.{Reaches};
 ghost use Rattle.steps.specs.Choice.{next-step};
-ghost use Rattle.steps.specs.Working.{plan-in, Working, Kept, Same, start-here, PutIn, Scan, StepOf};
+ghost use Rattle.steps.specs.Working.{plan-in, Working, Kept, Same, PutIn, Scan, StepOf};
 
 // A right side put in: the state after the step, or that the next plan would be too long.
 pub enum Made {

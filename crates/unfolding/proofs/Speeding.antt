@@ -43,10 +43,10 @@ no-node long few i h = omega (arith, holds-inside h few i)
 
 module _ (t : Tables) (c : ℕ) (left starts right old : List ℕ) (s : State) (ok : Lawful t) (work : Working t left starts right s) (kept : Kept c (plan-in left right s) old s)
     (own first second sizes stack todo : List ℕ) (start : ℕ) (h : Loaded (plan-in left right s) todo start) where
-  pub loaded-holding : length own ≡ 32768 → Holding t c (arrays own first second sizes stack todo) (fresh start) (plan-in left right s)
+  pub loaded-holding : 256 ≤ length own → Holding t c (arrays own first second sizes stack todo) (fresh start) (plan-in left right s)
   unfolding next-step first-from spell stacked
   loaded-holding long =
-      let few = length-take-le 256 own (omega arith) in
+      let few = length-take-le 256 own long in
       record {
         terms = [];
         behind = plan-in left right s;
@@ -63,18 +63,18 @@ module _ (t : Tables) (c : ℕ) (left starts right old : List ℕ) (s : State) (
         nodes-sized = λ v u i l. absurd (no-node few (ok .well-formed .few-actions) i l);
       }
 
-  pub loaded-fits : length own ≡ 32768 → length first ≡ 32768 → length second ≡ 32768 → length sizes ≡ 32768 → length stack ≡ 16384 → length todo ≡ 16384
+  pub loaded-fits : 256 ≤ length own → length own ≤ 32768 → length first ≡ length own → length second ≡ length own → length sizes ≡ length own → length stack ≡ 16384 → length todo ≡ 16384
       → Fits (arrays own first second sizes stack todo) (fresh start)
-  loaded-fits a b d e f g =
+  loaded-fits l a b d e f g =
       record {
-        own-long = a;
+        own-most = a;
         first-long = b;
         second-long = d;
         sizes-long = e;
         stack-long = f;
         todo-long = g;
         some-nodes = omega arith;
-        most-nodes = omega arith;
+        nodes-in = l;
         rest-in = omega (arith, h .long);
       }
 
@@ -83,11 +83,11 @@ module _ (t : Tables) (c : ℕ) (left starts right old : List ℕ) (s : State) (
 pub nodes-in-use : (m : Arrays) (p : Progress) → Fits m p → Nodes (in-use m (p .count))
 nodes-in-use m p f =
     let k = p .count in
-    let a = length-take-le k (m .own) (omega (arith, f .own-long, f .most-nodes)) in
+    let a = length-take-le k (m .own) (f .nodes-in) in
     record {
-      first-long = length-take-le k (m .first) (omega (arith, f .first-long, f .most-nodes)) ∙ sym a;
-      second-long = length-take-le k (m .second) (omega (arith, f .second-long, f .most-nodes)) ∙ sym a;
-      most = omega (arith, f .most-nodes);
+      first-long = length-take-le k (m .first) (omega (arith, f .first-long, f .nodes-in)) ∙ sym a;
+      second-long = length-take-le k (m .second) (omega (arith, f .second-long, f .nodes-in)) ∙ sym a;
+      most = omega (arith, a, f .nodes-in, f .own-most);
     }
 
 module _ (t : Tables) (c : ℕ) (m : Arrays) (p : Progress) (w : List ℕ) (ok : Lawful t) (h : Holding t c m p w) where

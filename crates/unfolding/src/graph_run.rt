@@ -2,6 +2,7 @@
 use crate::put_record;
 use buffer::MOST_WORDS;
 use buffer::State;
+use graph::MOST_NODES;
 use graphsteps::Advancing;
 use graphsteps::Cut;
 use graphsteps::Progress;
@@ -15,6 +16,13 @@ ghost use Rattle.buffer.specs.Moves.{Gap};
 ghost use Rattle.steps.specs.Working.{plan-in, Working, Kept};
 ghost use Rattle.graphsteps.specs.Holding.{arrays, Fits, SomePlan};
 ghost use Rattle.unfolding.specs.Walking.{Loaded, PlanOf, WroteOut, WalkedOn, RedexOf, RedexIn, SpedOf};
+
+// Areas of at most so many words take a graph of few nodes, so that less is set to zero in each call.
+const FEW_WORDS: usize = 2048;
+
+// The length of the arrays of nodes then. When all nodes are used, the plan is written out and loaded again; a plan of at most 2,048 words leaves
+// at least 1,792 of the 3,840 nodes for the steps after a loading.
+const FEW_NODES: usize = 4096;
 
 // How far the steps on a graph have come, the last of them and the state after it, the steps still allowed, and how much of the list is
 // used.
@@ -176,8 +184,8 @@ pub fn write_out(
     graph::write_back(own, first, second, stack, entries, dst, MOST_WORDS)
 }
 
-// Makes steps of the unfolding on a graph, as many as can be made there.
-pub fn make_steps(
+// Makes steps of the unfolding on a graph whose nodes are in arrays of one length, as many as can be made there.
+fn steps_on(
     tables: &[u8],
     n: u8,
     list: &mut [u8],
@@ -189,15 +197,16 @@ pub fn make_steps(
     state: State,
     allowed: usize,
     limit: usize,
+    own: &mut [u8],
+    first: &mut [u16],
+    second: &mut [u16],
+    sizes: &mut [u16],
 ) -> Sped
     requires { ⌜ (n ≡ actions (now tables)) × Lawful (now tables) × (limit ≤ 16384) × (used ≤ length (now list)) × (state .steps + allowed < 18446744073709551615) ⌝ }
     requires { ⌜ Working (now tables) (now left) (now starts) (now right) state × Kept limit (plan-in (now left) (now right) state) (now old) state ⌝ }
+    requires { ⌜ (256 ≤ length (now own)) × (length (now own) ≤ 32768) × (length (now first) ≡ length (now own)) × (length (now second) ≡ length (now own)) × (length (now sizes) ≡ length (now own)) ⌝ }
     ensures { λ r. ⌜ SpedOf (now (tables .entry)) limit allowed used (now (left .entry)) (now (starts .entry)) (now (right .entry)) (now (old .entry)) (now (list .entry)) (now (right .exit)) (now (old .exit)) (now (list .exit)) state r ⌝ }
 {
-    let mut own = [0u8; 32768];
-    let mut first = [0u16; 32768];
-    let mut second = [0u16; 32768];
-    let mut sizes = [0u16; 32768];
     let mut stack = [0u16; 16384];
     let mut todo = [0u16; 16384];
     let start = load(left, &*right, state, &mut todo);
@@ -213,10 +222,10 @@ pub fn make_steps(
         n,
         &mut *list,
         used,
-        &mut own,
-        &mut first,
-        &mut second,
-        &mut sizes,
+        &mut *own,
+        &mut *first,
+        &mut *second,
+        &mut *sizes,
         &mut stack,
         &mut todo,
         progress,
@@ -253,4 +262,68 @@ pub fn make_steps(
         used: walked.used,
         finished: reached.rest == MOST_WORDS,
     }
+}
+
+// Makes steps of the unfolding on a graph, as many as can be made there: on one of few nodes where the limit is small.
+pub fn make_steps(
+    tables: &[u8],
+    n: u8,
+    list: &mut [u8],
+    used: usize,
+    left: &[u8],
+    starts: &[u16],
+    right: &mut [u8],
+    old: &mut [u8],
+    state: State,
+    allowed: usize,
+    limit: usize,
+) -> Sped
+    requires { ⌜ (n ≡ actions (now tables)) × Lawful (now tables) × (limit ≤ 16384) × (used ≤ length (now list)) × (state .steps + allowed < 18446744073709551615) ⌝ }
+    requires { ⌜ Working (now tables) (now left) (now starts) (now right) state × Kept limit (plan-in (now left) (now right) state) (now old) state ⌝ }
+    ensures { λ r. ⌜ SpedOf (now (tables .entry)) limit allowed used (now (left .entry)) (now (starts .entry)) (now (right .entry)) (now (old .entry)) (now (list .entry)) (now (right .exit)) (now (old .exit)) (now (list .exit)) state r ⌝ }
+{
+    if limit <= FEW_WORDS {
+        let mut own = [0u8; FEW_NODES];
+        let mut first = [0u16; FEW_NODES];
+        let mut second = [0u16; FEW_NODES];
+        let mut sizes = [0u16; FEW_NODES];
+        return steps_on(
+            tables,
+            n,
+            list,
+            used,
+            left,
+            starts,
+            right,
+            old,
+            state,
+            allowed,
+            limit,
+            &mut own,
+            &mut first,
+            &mut second,
+            &mut sizes,
+        );
+    }
+    let mut own = [0u8; MOST_NODES];
+    let mut first = [0u16; MOST_NODES];
+    let mut second = [0u16; MOST_NODES];
+    let mut sizes = [0u16; MOST_NODES];
+    steps_on(
+        tables,
+        n,
+        list,
+        used,
+        left,
+        starts,
+        right,
+        old,
+        state,
+        allowed,
+        limit,
+        &mut own,
+        &mut first,
+        &mut second,
+        &mut sizes,
+    )
 }

@@ -14,6 +14,8 @@ use reference::tables::{actions, trial_tables};
 
 /// The steps of a replay with near places, and with far ones.
 const REPLAYED: (usize, usize) = (4000, 400);
+/// The areas of a short call without a step.
+const SMALL_AREA: usize = 256;
 /// The actions of the first chain where the areas grow, and where they are the longest.
 const SHORT_CHAIN: usize = 2;
 const LONG_CHAINS: [usize; 3] = [3, 4, 5];
@@ -43,18 +45,18 @@ fn main() {
     replays();
 }
 
-/// What a step takes in the proved library and in the plain version.
+/// What the proved library and the plain version take.
+#[derive(Clone, Copy)]
 struct Times {
     proved: Option<f64>,
     plain: f64,
 }
 
 impl Times {
-    /// Compares both once, then measures both; a call that makes no step counts as one.
+    /// Compares both once, then measures both, in nanoseconds for a call.
     fn measure(name: &str, call: &mut impl Call) -> Times {
         let outcome = call.outcome(PLAIN);
-        let ((number, steps, _), _) = outcome;
-        let parts = steps.max(1) as f64;
+        let ((number, _, _), _) = outcome;
         assert_eq!(number, 0, "{name}: the plain version comes to no end");
         if let Some(proved) = PROVED {
             let same = call.outcome(proved) == outcome;
@@ -65,23 +67,35 @@ impl Times {
             contenders[index].map(|contender| call.run(contender));
         });
         Times {
-            proved: PROVED.map(|_| proved / parts),
-            plain: plain / parts,
+            proved: PROVED.map(|_| proved),
+            plain,
         }
     }
 
-    /// What a step takes in the proved library without what the call takes beside its steps: the
-    /// least time of the call less that of the same call without a step, which take turns.
-    fn steps_alone(unfolding: &mut Unfolding) -> Option<f64> {
-        let proved = PROVED?;
+    /// What the steps of an unfolding alone take: the call less the same call without a step,
+    /// which take turns.
+    fn steps_alone(unfolding: &mut Unfolding) -> Times {
         let mut empty = unfolding.without_steps();
-        let [call, fixed]: [f64; 2] = least_times(|index| {
-            match index {
-                0 => unfolding.run(proved),
-                _ => empty.run(proved),
-            };
+        let contenders = [Some(PLAIN), PROVED];
+        let [plain, proved, empty_plain, empty_proved] = least_times(|index| {
+            contenders[index % 2].map(|contender| match index {
+                0..2 => unfolding.run(contender),
+                _ => empty.run(contender),
+            });
         });
-        Some((call - fixed) / unfolding.steps as f64)
+        Times {
+            proved: PROVED.map(|_| proved - empty_proved),
+            plain: plain - empty_plain,
+        }
+    }
+
+    /// The times for one of so many parts.
+    fn each(self, parts: usize) -> Times {
+        let parts = parts as f64;
+        Times {
+            proved: self.proved.map(|proved| proved / parts),
+            plain: self.plain / parts,
+        }
     }
 
     fn ratio(&self) -> Option<f64> {
@@ -94,30 +108,27 @@ impl Times {
     }
 }
 
-/// A table of unfoldings, with the ratios of its rows.
+/// A table of unfoldings, with the ratios of its rows: of the calls and of the steps alone, to
+/// the plain version and of Maude.
 struct Unfoldings {
     with_maude: bool,
-    to_plain: Vec<f64>,
-    call_to_maude: Vec<f64>,
-    steps_to_maude: Vec<f64>,
+    ratios: [Vec<f64>; 4],
 }
 
 impl Unfoldings {
     fn begin(with_maude: bool, names: &str) -> Unfoldings {
-        println!("\n| {names} | words | steps | rewrites | plain | proved/plain | proved | Maude/proved | steps alone | Maude/steps alone | Maude |");
-        println!("|---|--:|--:|--:|--:|--:|--:|--:|--:|--:|--:|--:|");
+        println!("\n| {names} | words | steps | rewrites | call: proved | plain | proved/plain | steps alone: proved | plain | proved/plain | Maude | Maude/call | Maude/steps alone |");
+        println!("|---|--:|--:|--:|--:|--:|--:|--:|--:|--:|--:|--:|--:|--:|");
         Unfoldings {
             with_maude,
-            to_plain: Vec::new(),
-            call_to_maude: Vec::new(),
-            steps_to_maude: Vec::new(),
+            ratios: Default::default(),
         }
     }
 
     fn row(&mut self, names: &str, mut unfolding: Unfolding) {
-        let times = Times::measure(names, &mut unfolding);
-        let alone = Times::steps_alone(&mut unfolding);
         let (words, steps) = (unfolding.plan.len(), unfolding.steps);
+        let call = Times::measure(names, &mut unfolding).each(steps);
+        let alone = Times::steps_alone(&mut unfolding).each(steps);
         let reduced = match self.with_maude {
             true => {
                 let reduced = maude::reduce(&unfolding).expect("maude runs");
@@ -126,43 +137,44 @@ impl Unfoldings {
             false => None,
         };
         let rewrites = reduced.map_or("–".to_string(), |reduced| reduced.rewrites.to_string());
-        let maude = reduced.and_then(|reduced| Some(reduced.time? / steps as f64));
+        // One equation more is used for each plan reduced, to put it in.
+        let maude = reduced.and_then(|reduced| Some(reduced.time? / (steps + 1) as f64));
         let to_maude = |time: Option<f64>| Some(maude? / time?);
-        let (call_ratio, steps_ratio) = (to_maude(times.proved), to_maude(alone));
+        let (to_call, to_alone) = (to_maude(call.proved), to_maude(alone.proved));
         println!(
-            "| {names} | {words} | {steps} | {rewrites} | {} | {} | {} | {} | {} | {} | {} |",
-            cell(Some(times.plain)),
-            cell(times.ratio()),
-            cell(times.proved),
-            cell(call_ratio),
-            cell(alone),
-            cell(steps_ratio),
+            "| {names} | {words} | {steps} | {rewrites} | {} | {} | {} | {} | {} |",
+            call.cells(),
+            alone.cells(),
             cell(maude),
+            cell(to_call),
+            cell(to_alone),
         );
-        self.to_plain.extend(times.ratio());
-        self.call_to_maude.extend(call_ratio);
-        self.steps_to_maude.extend(steps_ratio);
+        let row = [call.ratio(), alone.ratio(), to_call, to_alone];
+        for (ratios, ratio) in self.ratios.iter_mut().zip(row) {
+            ratios.extend(ratio);
+        }
     }
 
     fn end(self) {
-        let [plain, call, steps] =
-            [self.to_plain, self.call_to_maude, self.steps_to_maude].map(|of| cell(mean(&of)));
-        println!("| geometric mean | | | | | | {plain} | | {call} | | {steps} | |");
+        let [call, alone, to_call, to_alone] = self.ratios.map(|ratios| cell(mean(&ratios)));
+        println!(
+            "| geometric mean | | | | | | | {call} | | | {alone} | | {to_call} | {to_alone} |"
+        );
     }
 }
 
 fn without_steps() {
     println!("\n### Unfolding: a call without a step\n");
-    println!(
-        "Nanoseconds for the call, with a plan of one action and areas of {LONGEST_PLAN} words:"
-    );
-    println!("a part that every call has, however many its steps.\n");
-    println!("| tables | proved | plain | proved/plain |");
-    println!("|---|--:|--:|--:|");
+    println!("Nanoseconds for the call, with a plan of one action: a part that every call has,");
+    println!("however many its steps.\n");
+    println!("| tables | areas | proved | plain | proved/plain |");
+    println!("|---|--:|--:|--:|--:|");
     for tables in [trial_tables(), sum_tables()] {
-        let name = format!("{} actions", actions(&tables));
-        let times = Times::measure(&name, &mut single_action(tables, LONGEST_PLAN));
-        println!("| {name} | {} |", times.cells());
+        for area in [SMALL_AREA, LONGEST_PLAN] {
+            let name = format!("{} actions | {area}", actions(&tables));
+            let times = Times::measure(&name, &mut single_action(tables.clone(), area));
+            println!("| {name} | {} |", times.cells());
+        }
     }
 }
 
@@ -226,7 +238,7 @@ fn replays() {
         for words in sizes() {
             let mut replay = Replay::new(words, places, most);
             let (_, steps, size) = replay.run(PLAIN);
-            let times = Times::measure(name, &mut replay);
+            let times = Times::measure(name, &mut replay).each(steps);
             println!("| {name} | {size} | {steps} | {} |", times.cells());
             ratios.extend(times.ratio());
         }

@@ -110,140 +110,100 @@ fn smaller_judged(
     found
 }
 
+/// Cases that differ from one in a part each.
+struct Changed<'c, C> {
+    case: &'c C,
+    found: Vec<C>,
+}
+
+impl<C: Clone> Changed<'_, C> {
+    fn of(case: &C) -> Changed<'_, C> {
+        let found = Vec::new();
+        Changed { case, found }
+    }
+
+    /// The case with each of some parts put in.
+    fn with<T>(mut self, parts: Vec<T>, put: impl Fn(&mut C, T)) -> Self {
+        self.found.extend(parts.into_iter().map(|part| {
+            let mut case = self.case.clone();
+            put(&mut case, part);
+            case
+        }));
+        self
+    }
+}
+
 fn smaller_unfoldings(case: &UnfoldCase) -> Vec<UnfoldCase> {
-    let with = |change: &dyn Fn(&mut UnfoldCase)| {
-        let mut case = case.clone();
-        change(&mut case);
-        case
-    };
-    let mut found = Vec::new();
-    for plan in smaller_plans(&case.plan) {
-        found.push(with(&|case| case.plan = plan.clone()));
-    }
-    for allowance in smaller_numbers(case.allowance as usize) {
-        found.push(with(&|case| case.allowance = allowance as u32));
-    }
-    for list in smaller_lent(&case.list) {
-        found.push(with(&|case| case.list = list.clone()));
-    }
-    for a in smaller_lent(&case.a) {
-        found.push(with(&|case| case.a = a.clone()));
-    }
-    for b in smaller_lent(&case.b) {
-        found.push(with(&|case| case.b = b.clone()));
-    }
-    for tables in smaller_tables(&case.tables) {
-        found.push(with(&|case| case.tables = tables.clone()));
-    }
-    found
+    let numbers = smaller_numbers(case.allowance as usize);
+    Changed::of(case)
+        .with(smaller_plans(&case.plan), |case, plan| case.plan = plan)
+        .with(numbers, |case, number| case.allowance = number as u32)
+        .with(smaller_lent(&case.list), |case, list| case.list = list)
+        .with(smaller_lent(&case.a), |case, a| case.a = a)
+        .with(smaller_lent(&case.b), |case, b| case.b = b)
+        .with(smaller_tables(&case.tables), |case, tables| {
+            case.tables = tables
+        })
+        .found
 }
 
 fn smaller_checked(case: &CheckedCase) -> Vec<Case> {
-    let with = |change: &dyn Fn(&mut CheckedCase)| {
-        let mut case = case.clone();
-        change(&mut case);
-        Case::UnfoldChecked(case)
-    };
-    let mut found = Vec::new();
-    for unfolding in smaller_unfoldings(&case.unfolding) {
-        found.push(with(&|case| case.unfolding = unfolding.clone()));
-    }
-    for c in smaller_lent(&case.c) {
-        found.push(with(&|case| case.c = c.clone()));
-    }
-    for d in smaller_lent(&case.d) {
-        found.push(with(&|case| case.d = d.clone()));
-    }
-    found
+    let unfoldings = smaller_unfoldings(&case.unfolding);
+    let changed = Changed::of(case)
+        .with(unfoldings, |case, unfolding| case.unfolding = unfolding)
+        .with(smaller_lent(&case.c), |case, c| case.c = c)
+        .with(smaller_lent(&case.d), |case, d| case.d = d);
+    each(changed.found, Case::UnfoldChecked)
 }
 
 fn smaller_reached(case: &ReachedCase) -> Vec<Case> {
-    let with = |change: &dyn Fn(&mut ReachedCase)| {
-        let mut case = case.clone();
-        change(&mut case);
-        Case::Reached(case)
-    };
-    let mut found = Vec::new();
-    for steps in smaller_numbers(case.steps) {
-        found.push(with(&|case| case.steps = steps));
-    }
-    for size in smaller_numbers(case.size) {
-        found.push(with(&|case| case.size = size));
-    }
-    for length in smaller_numbers(case.a.len()) {
-        found.push(with(&|case| case.a.truncate(length)));
-    }
-    for length in smaller_numbers(case.b.len()) {
-        found.push(with(&|case| case.b.truncate(length)));
-    }
-    for plan in smaller_lent(&case.plan) {
-        found.push(with(&|case| case.plan = plan.clone()));
-    }
-    found
+    let changed = Changed::of(case)
+        .with(smaller_numbers(case.steps), |case, steps| {
+            case.steps = steps
+        })
+        .with(smaller_numbers(case.size), |case, size| case.size = size)
+        .with(smaller_numbers(case.a.len()), |case, length| {
+            case.a.truncate(length)
+        })
+        .with(smaller_numbers(case.b.len()), |case, length| {
+            case.b.truncate(length)
+        })
+        .with(smaller_lent(&case.plan), |case, plan| case.plan = plan);
+    each(changed.found, Case::Reached)
 }
 
 fn smaller_listings(case: &ListCase) -> Vec<Case> {
-    let with = |change: &dyn Fn(&mut ListCase)| {
-        let mut case = case.clone();
-        change(&mut case);
-        Case::ListStation(case)
-    };
-    let mut found = Vec::new();
-    for file in smaller_files(&case.file) {
-        found.push(with(&|case| case.file = file.clone()));
-    }
-    for out in smaller_lent(&case.out) {
-        found.push(with(&|case| case.out = out.clone()));
-    }
-    found
+    let changed = Changed::of(case)
+        .with(smaller_files(&case.file), |case, file| case.file = file)
+        .with(smaller_lent(&case.out), |case, out| case.out = out);
+    each(changed.found, Case::ListStation)
 }
 
 fn smaller_checks(case: &CheckCase) -> Vec<Case> {
-    let with = |change: &dyn Fn(&mut CheckCase)| {
-        let mut case = case.clone();
-        change(&mut case);
-        Case::Check(case)
-    };
-    let mut found = Vec::new();
-    for rewriting in smaller_rewritings(&case.rewriting) {
-        found.push(with(&|case| case.rewriting = rewriting.clone()));
-    }
-    for start in smaller_plans(&case.start) {
-        found.push(with(&|case| case.start = start.clone()));
-    }
-    found.push(with(&|case| case.claimed = case.start.clone()));
-    for claimed in smaller_plans(&case.claimed) {
-        found.push(with(&|case| case.claimed = claimed.clone()));
-    }
-    for a in smaller_lent(&case.a) {
-        found.push(with(&|case| case.a = a.clone()));
-    }
-    for b in smaller_lent(&case.b) {
-        found.push(with(&|case| case.b = b.clone()));
-    }
-    for tables in smaller_tables(&case.tables) {
-        found.push(with(&|case| case.tables = tables.clone()));
-    }
-    found
+    let rewritings = smaller_rewritings(&case.rewriting);
+    let changed = Changed::of(case)
+        .with(rewritings, |case, rewriting| case.rewriting = rewriting)
+        .with(smaller_plans(&case.start), |case, start| case.start = start)
+        .with(vec![case.start.clone()], |case, start| case.claimed = start)
+        .with(smaller_plans(&case.claimed), |case, claimed| {
+            case.claimed = claimed
+        })
+        .with(smaller_lent(&case.a), |case, a| case.a = a)
+        .with(smaller_lent(&case.b), |case, b| case.b = b)
+        .with(smaller_tables(&case.tables), |case, tables| {
+            case.tables = tables
+        });
+    each(changed.found, Case::Check)
 }
 
 fn smaller_stations(case: &StationCase) -> Vec<Case> {
-    let with = |change: &dyn Fn(&mut StationCase)| {
-        let mut case = case.clone();
-        change(&mut case);
-        Case::ReadStation(case)
-    };
-    let mut found = Vec::new();
-    for tables in smaller_lent(&case.tables) {
-        found.push(with(&|case| case.tables = tables.clone()));
-    }
-    for plan in smaller_lent(&case.plan) {
-        found.push(with(&|case| case.plan = plan.clone()));
-    }
-    for file in smaller_files(&case.file) {
-        found.push(with(&|case| case.file = file.clone()));
-    }
-    found
+    let changed = Changed::of(case)
+        .with(smaller_lent(&case.tables), |case, tables| {
+            case.tables = tables
+        })
+        .with(smaller_lent(&case.plan), |case, plan| case.plan = plan)
+        .with(smaller_files(&case.file), |case, file| case.file = file);
+    each(changed.found, Case::ReadStation)
 }
 
 /// Nothing, a half, a record's bytes less, one less.

@@ -134,7 +134,7 @@ slice-aggregate-first-law-at c =
     let o = c .before .before .before in
     let k = o .before .before in
     let s = start k in
-    sym (length-take-le (s .args .progress .count) (s .args .own .now) (omega (arith, fits s .own-long, fits s .most-nodes)))
+    sym (length-take-le (s .args .progress .count) (s .args .own .now) (fits s .nodes-in))
 
 slice-reshare-prefix-first-law-at-2 : tie.Need-slice-reshare-prefix-first-law-at-2
 slice-reshare-prefix-first-law-at-2 c = search needs
@@ -144,7 +144,7 @@ slice-aggregate-first-law-at-2 c =
     let o = c .before .before .before .before in
     let k = o .before .before in
     let s = start k in
-    sym (length-take-le (s .args .progress .count) (s .args .first .now) (omega (arith, fits s .first-long, fits s .most-nodes)))
+    sym (length-take-le (s .args .progress .count) (s .args .first .now) (omega (arith, fits s .first-long, fits s .nodes-in)))
 
 slice-reshare-prefix-first-law-at-3 : tie.Need-slice-reshare-prefix-first-law-at-3
 slice-reshare-prefix-first-law-at-3 c = search needs
@@ -154,7 +154,7 @@ slice-aggregate-first-law-at-3 c =
     let o = c .before .before .before .before .before in
     let k = o .before .before in
     let s = start k in
-    sym (length-take-le (s .args .progress .count) (s .args .second .now) (omega (arith, fits s .second-long, fits s .most-nodes)))
+    sym (length-take-le (s .args .progress .count) (s .args .second .now) (omega (arith, fits s .second-long, fits s .nodes-in)))
 
 first-law-at-requires : tie.Need-first-law-at-requires
 first-law-at-requires c κs =
@@ -194,8 +194,8 @@ read-sign-requires c κs =
     let s = start k in
     let f = fits s in
     let d = out.old-less (s .args .tables .now) (s .pre .0 .1) (s .args .limit) (s .pre .0 .2) (s .args .allowed) (s .args .room) _ _ _ _ _ _ (s .args .progress) (fits s) (s .pre .0 .4) (low k) (high k) (o .take-operands .result) (o .take-operands .ensures) (some s) in (
-      (f .own-long, f .first-long, f .second-long, f .sizes-long, f .stack-long),
-      (omega (arith, f .most-nodes, c .before .before .before .before .before .if4 .left), s .pre .0 .4, omega (arith, room s), d .3, omega (arith, d, l .before .before .before .before .before .redex-size .ensures)),
+      (f .own-most, f .first-long, f .second-long, f .sizes-long, f .stack-long),
+      (omega (arith, f .nodes-in, c .before .before .before .before .before .if4 .left), s .pre .0 .4, omega (arith, room s), d .3, omega (arith, d, l .before .before .before .before .before .redex-size .ensures)),
     )
 
 same-length-11 : tie.Need-same-length-11
@@ -223,7 +223,7 @@ returns-4 c =
     let k = o .before .before in
     let s = begun l in
     let e = c .before .before .before .before .before .before .before .before .before .before .read-sign .ensures in
-    out.on-sign (s .args .tables .now) (s .pre .0 .1) (s .args .limit) (s .pre .0 .2) (s .args .allowed) (s .args .room) _ _ _ _ _ _ (s .args .progress) (fits s) (s .pre .0 .4) (low k) (high k) (o .take-operands .result) (o .take-operands .ensures) _ (l .first-law-at .result) (chose l) (c .before .before .before .before .before .before .before .before .before .before .before .before .before .before .before .before .before .if3 .taken) (omega (arith, fits s .most-nodes, c .before .before .before .before .before .before .before .before .before .before .before .before .before .before .before .before .if4 .left)) _ (l .before .before .before .before .before .redex-size .ensures .0) (e .0) (e .1) (e .2) (e .3) (e .4) (e .5)
+    out.on-sign (s .args .tables .now) (s .pre .0 .1) (s .args .limit) (s .pre .0 .2) (s .args .allowed) (s .args .room) _ _ _ _ _ _ (s .args .progress) (fits s) (s .pre .0 .4) (low k) (high k) (o .take-operands .result) (o .take-operands .ensures) _ (l .first-law-at .result) (chose l) (c .before .before .before .before .before .before .before .before .before .before .before .before .before .before .before .before .before .if3 .taken) (omega (arith, fits s .nodes-in, c .before .before .before .before .before .before .before .before .before .before .before .before .before .before .before .before .if4 .left)) _ (l .before .before .before .before .before .redex-size .ensures .0) (e .0) (e .1) (e .2) (e .3) (e .4) (e .5)
 
 same-length-17 : tie.Need-same-length-17
 same-length-17 c = search needs

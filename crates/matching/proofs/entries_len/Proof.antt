@@ -1,10 +1,10 @@
--- The sizes of x, y and z, each as often as the law's weights say, and the other words are what a right side comes to.
+-- The sizes of x, y and z, each as often as the law's counts say, and the other words are what a right side comes to.
 use Prim.Native.Nat.{ℕ, _+_, _*_, _<_}
 use native.Mathlib.Omega.{arith}
 use borrow.Author.Needs.{needs}
-use Rattle.matching.specs.declared.side.Weights.{Weights}
+use Rattle.matching.specs.declared.side.Counts.{Counts}
 use Rattle.matching.specs.Slots.{SideSize}
-use Rattle.matching.proofs.Entries.{side-weighed}
+use Rattle.matching.proofs.Entries.{side-counted}
 use Rattle.matching.proofs.entries_len.Statement.{statement}
 use Rattle.matching.proofs.entries_len.Tie as tie
 
@@ -13,18 +13,18 @@ module _ (k : tie.After-size-of3) where
   abbrev start : tie.Start
   start = k .before .before .before .before .before .before .before .before .before
 
-  abbrev weights : Weights
-  weights = k .before .before .before .before .before .before .weights-of .result
+  abbrev counts : Counts
+  counts = k .before .before .before .before .before .before .counts-of .result
 
   abbrev sum : ℕ
-  sum = weights .x * k .before .before .before .before .size-of .result + weights .y * k .before .before .size-of2 .result + weights .z * k .size-of3 .result + weights .own
+  sum = counts .x * k .before .before .before .before .size-of .result + counts .y * k .before .before .size-of2 .result + counts .z * k .size-of3 .result + counts .others
 
   counted : SideSize (start .args .law) (start .args .slots .now) (start .args .sizes .now) sum × (sum < 1000000)
   counted =
-      side-weighed (start .args .law) (start .args .slots .now) (start .args .sizes .now) weights _ _ _ (start .pre .0 .0) (start .pre .0 .1) (k .before .before .before .before .before .before .weights-of .ensures) (start .pre .1 .1) (k .before .before .before .before .size-of .ensures) (k .before .before .size-of2 .ensures) (k .size-of3 .ensures)
+      side-counted (start .args .law) (start .args .slots .now) (start .args .sizes .now) counts _ _ _ (start .pre .0 .0) (start .pre .0 .1) (k .before .before .before .before .before .before .counts-of .ensures) (start .pre .1 .1) (k .before .before .before .before .size-of .ensures) (k .before .before .size-of2 .ensures) (k .size-of3 .ensures)
 
-weights-of-requires : tie.Need-weights-of-requires
-weights-of-requires c κs = search needs
+counts-of-requires : tie.Need-counts-of-requires
+counts-of-requires c κs = search needs
 
 shared-slice-read-size-of : tie.Need-shared-slice-read-size-of
 shared-slice-read-size-of c = search needs
@@ -81,7 +81,7 @@ pub entries-len-spec : {M : Type 1} → statement M
 entries-len-spec =
     tie.close
     (tie.spec
-    weights-of-requires
+    counts-of-requires
     shared-slice-read-size-of
     size-of-requires
     shared-slice-read-size-of-2

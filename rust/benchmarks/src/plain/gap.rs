@@ -1,7 +1,7 @@
 //! A plan under work as a gap buffer.
 
 use super::graph::Graph;
-use super::laws::{self, Letters, Piece, Root, Terms};
+use super::laws::{self, Letters, Piece, Root};
 use reference::plans::{operands, LONGEST_PLAN};
 use reference::runs::set;
 
@@ -20,7 +20,7 @@ impl Span {
 
 /// The words read, with the start of the subplan that ends at each.
 #[derive(Clone, Copy)]
-struct Words<'g> {
+pub struct Words<'g> {
     words: &'g [u8],
     starts: &'g [u16],
 }
@@ -50,14 +50,14 @@ impl Words<'_> {
     }
 }
 
-impl Terms for Words<'_> {
-    type Term = Span;
-
-    fn word(self, term: Span) -> u8 {
+impl Words<'_> {
+    /// The last word of a subplan: its action or its sign.
+    pub fn word(self, term: Span) -> u8 {
         self.words[term.to - 1]
     }
 
-    fn two(self, term: Span) -> (Span, Span) {
+    /// The operands of a subplan whose sign has two.
+    pub fn two(self, term: Span) -> (Span, Span) {
         let to = term.to - 1;
         let from = usize::from(self.starts[to - 1]);
         let first = self.starts[from - 1].into();
@@ -123,12 +123,12 @@ impl Gap {
     }
 
     /// Hands the plan over to an empty graph.
-    pub fn hand_over(&self, graph: &mut Graph) {
+    pub fn hand_over<const LENGTH: usize>(&self, graph: &mut Graph<LENGTH>) {
         graph.load(&self.left[..self.read], &self.right[self.rest..]);
     }
 
     /// Takes over the plan that the graph has reached, with no word read.
-    pub fn take_over(&mut self, graph: &mut Graph) {
+    pub fn take_over<const LENGTH: usize>(&mut self, graph: &mut Graph<LENGTH>) {
         self.read = 0;
         self.rest = LONGEST_PLAN - graph.size;
         graph.write_plan(&mut self.right[self.rest..]);
@@ -169,7 +169,7 @@ impl Gap {
     }
 
     /// Reads on until one of laws 5 to 32 fits at the last word read.
-    pub fn scan(&mut self, tables: &[u8]) -> Option<(u8, Letters<Span>)> {
+    pub fn scan(&mut self, tables: &[u8]) -> Option<(u8, Letters)> {
         while self.rest < LONGEST_PLAN {
             self.forward(1);
             let words = self.words();
@@ -190,7 +190,7 @@ impl Gap {
     }
 
     /// What the letters of a law stand for, if it fits at the last word read.
-    pub fn fit(&self, tables: &[u8], law: u8) -> Option<Letters<Span>> {
+    pub fn fit(&self, tables: &[u8], law: u8) -> Option<Letters> {
         let words = self.words();
         laws::fit(law, tables, words, words.root())
             .filter(|letters| law != 4 || words.same(letters.x, letters.y))
@@ -198,7 +198,7 @@ impl Gap {
 
     /// Puts the right side of a law in place of the subplan at the last word read, unless the
     /// plan would have more words than there is room for.
-    pub fn put(&mut self, tables: &[u8], law: u8, letters: Letters<Span>, room: usize) -> bool {
+    pub fn put(&mut self, tables: &[u8], law: u8, letters: Letters, room: usize) -> bool {
         let right = laws::right(law, tables, letters);
         let at = usize::from(self.starts[self.read - 1]);
         let taken = self.read - at;
@@ -254,7 +254,7 @@ impl Gap {
     }
 }
 
-impl Piece<Span> {
+impl Piece {
     /// How many words a piece has.
     fn size(&self) -> usize {
         match self {

@@ -12,8 +12,11 @@ use reference::plans::{operands, CHOICE, LONGEST_PLAN, PRODUCT};
 
 /// Nodes begin at 256, so that every word is an entry too.
 const FIRST_NODE: usize = 256;
-/// The length of the array of nodes.
-const MOST_NODES: usize = 32768;
+/// Areas of at most so many words take a graph of few nodes.
+pub const FEW_WORDS: usize = 2048;
+/// The length of the arrays of nodes then, and in other areas.
+pub const FEW_NODES: usize = 4096;
+pub const MOST_NODES: usize = 32768;
 
 /// A word below 256, a node from there on.
 #[derive(Clone, Copy, Default)]
@@ -46,16 +49,16 @@ impl Entry {
 
 /// Signs over their operands: for each node its sign, its operands (the same one twice for a
 /// sign of one), and how many words it is written as.
-pub struct Nodes {
-    signs: [u8; MOST_NODES],
-    first: [Entry; MOST_NODES],
-    second: [Entry; MOST_NODES],
-    sizes: [u16; MOST_NODES],
+pub struct Nodes<const LENGTH: usize> {
+    signs: [u8; LENGTH],
+    first: [Entry; LENGTH],
+    second: [Entry; LENGTH],
+    sizes: [u16; LENGTH],
     /// Where the next node goes.
     count: usize,
 }
 
-impl Nodes {
+impl<const LENGTH: usize> Nodes<LENGTH> {
     /// How many words an entry is written as.
     pub fn size(&self, entry: Entry) -> usize {
         entry.node().map_or(1, |node| self.sizes[node].into())
@@ -91,7 +94,7 @@ impl Nodes {
     /// Makes a node, if there is room for one.
     fn make(&mut self, root: Root<Entry>) -> Option<Entry> {
         let node = self.count;
-        if node == MOST_NODES {
+        if node == LENGTH {
             return None;
         }
         self.signs[node] = root.sign;
@@ -104,8 +107,8 @@ impl Nodes {
 }
 
 /// A plan as entries, and the steps made on it.
-pub struct Graph {
-    nodes: Nodes,
+pub struct Graph<const LENGTH: usize> {
+    nodes: Nodes<LENGTH>,
     /// The terms read, in front.
     stack: [Entry; LONGEST_PLAN],
     height: usize,
@@ -123,15 +126,15 @@ pub struct Graph {
     redex: Root<Entry>,
 }
 
-impl Graph {
+impl<const LENGTH: usize> Graph<LENGTH> {
     /// No plan yet. (Made in its place, and not moved: it is large.)
-    pub fn empty() -> Graph {
+    pub fn empty() -> Graph<LENGTH> {
         Graph {
             nodes: Nodes {
-                signs: [0; MOST_NODES],
-                first: [Entry::default(); MOST_NODES],
-                second: [Entry::default(); MOST_NODES],
-                sizes: [0; MOST_NODES],
+                signs: [0; LENGTH],
+                first: [Entry::default(); LENGTH],
+                second: [Entry::default(); LENGTH],
+                sizes: [0; LENGTH],
                 count: FIRST_NODE,
             },
             stack: [Entry::default(); LONGEST_PLAN],

@@ -1,24 +1,12 @@
-//! The laws at a sign: whether one fits, and its right side. Gap buffer and graph both match
-//! with these.
+//! The laws at a sign of a plan's words: whether one fits, and its right side.
 
+use super::gap::{Span, Words};
 use reference::plans::{
     CHOICE, COMMUNICATION_MERGE, ENCAPSULATION, LAST_ENCAPSULATION, LEFT_MERGE, MERGE, PRODUCT,
     THETA, UNLESS,
 };
 use reference::tables::{below, blocked, communication, DEAD_STOP};
 use std::ops::RangeInclusive;
-
-/// Where terms are kept, and how they are read there.
-pub trait Terms: Copy {
-    /// What stands for a term.
-    type Term: Copy + Default;
-
-    /// The last word of a term: its action or its sign.
-    fn word(self, term: Self::Term) -> u8;
-
-    /// The operands of a term whose sign has two.
-    fn two(self, term: Self::Term) -> (Self::Term, Self::Term);
-}
 
 /// A sign with its operands; the same one twice for a sign of one.
 #[derive(Clone, Copy, Default)]
@@ -30,10 +18,10 @@ pub struct Root<T> {
 
 /// What the letters of a law stand for.
 #[derive(Clone, Copy, Default)]
-pub struct Letters<T> {
-    pub x: T,
-    pub y: T,
-    z: T,
+pub struct Letters {
+    pub x: Span,
+    pub y: Span,
+    z: Span,
     a: u8,
     b: u8,
     sign: u8,
@@ -117,25 +105,16 @@ fn candidates(sign: u8) -> RangeInclusive<u8> {
 }
 
 /// The lowest of laws 5 to 32 that fits at a sign.
-pub fn lowest<S: Terms>(
-    tables: &[u8],
-    terms: S,
-    root: Root<S::Term>,
-) -> Option<(u8, Letters<S::Term>)> {
-    candidates(root.sign).find_map(|law| Some((law, fit(law, tables, terms, root)?)))
+pub fn lowest(tables: &[u8], words: Words, root: Root<Span>) -> Option<(u8, Letters)> {
+    candidates(root.sign).find_map(|law| Some((law, fit(law, tables, words, root)?)))
 }
 
 /// What the letters of a law stand for, if it fits at a sign. Law 4 fits here at every x + y:
 /// whether both are the same is the caller's to see.
-pub fn fit<S: Terms>(
-    law: u8,
-    tables: &[u8],
-    terms: S,
-    root: Root<S::Term>,
-) -> Option<Letters<S::Term>> {
+pub fn fit(law: u8, tables: &[u8], words: Words, root: Root<Span>) -> Option<Letters> {
     let matching = Matching {
         tables,
-        terms,
+        words,
         root,
     };
     match (law, root.sign) {
@@ -151,39 +130,39 @@ pub fn fit<S: Terms>(
 }
 
 /// What a left side is matched against.
-struct Matching<'t, S: Terms> {
+struct Matching<'t> {
     tables: &'t [u8],
-    terms: S,
-    root: Root<S::Term>,
+    words: Words<'t>,
+    root: Root<Span>,
 }
 
-impl<S: Terms> Matching<'_, S> {
+impl Matching<'_> {
     /// The operands of a term whose sign is this one.
-    fn under(&self, sign: u8, term: S::Term) -> Option<(S::Term, S::Term)> {
-        (self.terms.word(term) == sign).then(|| self.terms.two(term))
+    fn under(&self, sign: u8, term: Span) -> Option<(Span, Span)> {
+        (self.words.word(term) == sign).then(|| self.words.two(term))
     }
 
     /// The action that a term is.
-    fn action(&self, term: S::Term) -> Option<u8> {
-        let word = self.terms.word(term);
+    fn action(&self, term: Span) -> Option<u8> {
+        let word = self.words.word(term);
         (word < 32).then_some(word)
     }
 
     /// The first action and the rest of a term a·x.
-    fn first(&self, term: S::Term) -> Option<(u8, S::Term)> {
+    fn first(&self, term: Span) -> Option<(u8, Span)> {
         let (a, x) = self.under(PRODUCT, term)?;
         Some((self.action(a)?, x))
     }
 
-    fn is_stop(&self, term: S::Term) -> bool {
-        self.terms.word(term) == DEAD_STOP
+    fn is_stop(&self, term: Span) -> bool {
+        self.words.word(term) == DEAD_STOP
     }
 
     /// A law whose left side is a sign with the operands p and q.
-    fn two(&self, law: u8) -> Option<Letters<S::Term>> {
+    fn two(&self, law: u8) -> Option<Letters> {
         let (none, Root { p, q, .. }) = (Letters::default(), self.root);
         let plans = |x, y, z| Letters { x, y, z, ..none };
-        let below = |found: &Letters<S::Term>| below(self.tables, found.a, found.b);
+        let below = |found: &Letters| below(self.tables, found.a, found.b);
         match law {
             1 | 4 | 11 => Some(plans(p, q, none.z)),
             2 | 19 | 27 => self.under(CHOICE, q).map(|(y, z)| plans(p, y, z)),
@@ -214,14 +193,14 @@ impl<S: Terms> Matching<'_, S> {
     }
 
     /// Two actions a and b.
-    fn actions(&self) -> Option<Letters<S::Term>> {
+    fn actions(&self) -> Option<Letters> {
         let (a, b) = (self.action(self.root.p)?, self.action(self.root.q)?);
         let none = Letters::default();
         Some(Letters { a, b, ..none })
     }
 
     /// A law whose left side is a sign with the operand p.
-    fn one(&self, law: u8) -> Option<Letters<S::Term>> {
+    fn one(&self, law: u8) -> Option<Letters> {
         let Root { sign, p, .. } = self.root;
         let none = Letters {
             sign,
@@ -229,7 +208,7 @@ impl<S: Terms> Matching<'_, S> {
         };
         let plans = |(x, y)| Letters { x, y, ..none };
         let action = || self.action(p).map(|a| Letters { a, ..none });
-        let in_set = |found: &Letters<S::Term>| blocked(self.tables, sign - ENCAPSULATION, found.a);
+        let in_set = |found: &Letters| blocked(self.tables, sign - ENCAPSULATION, found.a);
         match law {
             20 => action().filter(|found| !in_set(found)),
             21 => action().filter(in_set),
@@ -242,19 +221,19 @@ impl<S: Terms> Matching<'_, S> {
 }
 
 /// A piece of a right side.
-pub enum Piece<T> {
+pub enum Piece {
     /// A term that a letter stands for.
-    Term(T),
+    Term(Span),
     /// A word.
     Word(u8),
 }
 
 /// The right side of a law, its letters replaced by what they stand for.
-pub fn right<T: Copy>(
+pub fn right(
     law: u8,
     tables: &[u8],
-    letters: Letters<T>,
-) -> impl DoubleEndedIterator<Item = Piece<T>> + Clone {
+    letters: Letters,
+) -> impl DoubleEndedIterator<Item = Piece> + Clone {
     let together = communication(tables, letters.a, letters.b);
     let piece = move |&symbol: &Symbol| match symbol {
         X => Piece::Term(letters.x),

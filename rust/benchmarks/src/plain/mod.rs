@@ -14,7 +14,7 @@ mod records;
 mod roots;
 
 use gap::Gap;
-use graph::Graph;
+use graph::{Graph, FEW_NODES, FEW_WORDS, MOST_NODES};
 use records::Records;
 use reference::plans::judge;
 use reference::runs::room;
@@ -59,7 +59,19 @@ pub fn unfold(
 /// Makes steps on a graph, as many as can be made on one; whether all is read there, so that no
 /// step is left.
 fn burst(tables: &[u8], gap: &mut Gap, records: &mut Records, room: usize) -> bool {
-    let mut graph = Graph::empty();
+    match room {
+        ..=FEW_WORDS => burst_of::<FEW_NODES>(tables, gap, records, room),
+        _ => burst_of::<MOST_NODES>(tables, gap, records, room),
+    }
+}
+
+fn burst_of<const LENGTH: usize>(
+    tables: &[u8],
+    gap: &mut Gap,
+    records: &mut Records,
+    room: usize,
+) -> bool {
+    let mut graph = Graph::<LENGTH>::empty();
     gap.hand_over(&mut graph);
     graph.walk(tables, records, room);
     let finished = graph.all_read();

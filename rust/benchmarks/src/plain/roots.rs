@@ -8,7 +8,8 @@ use reference::plans::{
 };
 use reference::tables::{below, blocked, communication, DEAD_STOP};
 
-/// An operand: an action, or a sign over two operands.
+/// An operand, as the laws ask for it: an action, a sum or a product with what is under it, or
+/// another sign.
 #[derive(Clone, Copy)]
 pub enum Operand {
     Action(Entry),
@@ -78,7 +79,11 @@ impl Redex {
     }
 
     /// The law that fits at a sign.
-    pub fn at(tables: &[u8], nodes: &Nodes, root: Root<Entry>) -> Option<Redex> {
+    pub fn at<const LENGTH: usize>(
+        tables: &[u8],
+        nodes: &Nodes<LENGTH>,
+        root: Root<Entry>,
+    ) -> Option<Redex> {
         let Root { sign, p, q } = root;
         match sign {
             CHOICE if q.is(STOP) => Redex::on_plans(7, p, STOP, STOP),
@@ -138,7 +143,7 @@ impl Redex {
     }
 
     /// How many words the right side comes to.
-    pub fn size(&self, nodes: &Nodes) -> usize {
+    pub fn size<const LENGTH: usize>(&self, nodes: &Nodes<LENGTH>) -> usize {
         let [x, y, z, own] = weights(self.law);
         x * nodes.size(self.x) + y * nodes.size(self.y) + z * nodes.size(self.z) + own
     }

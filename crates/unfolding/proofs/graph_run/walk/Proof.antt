@@ -17,7 +17,7 @@ use Rattle.unfolding.proofs.graph_run.walk.Tie as tie
 abbrev Inv-loop : tie.InvT-loop
 Inv-loop tables n list₀ used own₀ first₀ second₀ sizes₀ stack₀ todo₀ allowed limit slots₀ here₀ cut₀ reached₀ left₀ end₀ list own first second sizes stack todo slots here cut reached left end =
     Walking tables limit allowed used list₀ (arrays own₀ first₀ second₀ sizes₀ stack₀ todo₀) here₀ reached₀ list (arrays own first second sizes stack todo) here cut reached left end
-    × (length slots ≡ 6)
+    × (length slots ≡ 6) × (length own ≡ length own₀)
 
 abbrev μ-loop : tie.MeasureT-loop
 μ-loop tables n list₀ used own₀ first₀ second₀ sizes₀ stack₀ todo₀ allowed limit slots₀ here₀ cut₀ reached₀ left₀ end₀ list own first second sizes stack todo slots here cut reached left end =
@@ -62,8 +62,11 @@ further k law p cut q = step (k .advance .ensures) q
 slots-long : (k : tie.After-advance Inv-loop μ-loop) → length (k .advance .last .1 .1 .1 .1 .1 .1 .1 .1 .0) ≡ 6
 slots-long k = k .advance .kept .1 .1 .1 .1 .1 .1 .1 .1 .0 ∙ at-loop k .loop .inv .1
 
+nodes-long : (k : tie.After-advance Inv-loop μ-loop) → length (held-next k .own) ≡ length (entry (at-loop k) .args .own .now)
+nodes-long k = k .advance .kept .1 .1 .0 ∙ at-loop k .loop .inv .2
+
 loop-holds : tie.Need-loop-holds Inv-loop μ-loop
-loop-holds c = let p = c .before .before .before .before .before .before .before .before .pre in (starts (p .0 .3) (p .1 .0) (p .1 .1), refl)
+loop-holds c = let p = c .before .before .before .before .before .before .before .before .pre in (starts (p .0 .3) (p .1 .0) (p .1 .1), refl, refl)
 
 sub-room : tie.Need-sub-room Inv-loop μ-loop
 sub-room c = c .before .before .loop .inv .0 .end-low
@@ -89,7 +92,7 @@ loop-less c =
 loop-again : tie.Need-loop-again Inv-loop μ-loop
 loop-again c =
     let k = called (c .before .before .before) in
-    (goes-on (at-loop k .loop .inv .0) (onward k _ (c .before .advanced .given .1)), slots-long k)
+    (goes-on (at-loop k .loop .inv .0) (onward k _ (c .before .advanced .given .1)), slots-long k, nodes-long k)
 
 enum-known-advanced-2 : tie.Need-enum-known-advanced-2 Inv-loop μ-loop
 enum-known-advanced-2 c = search needs
@@ -140,7 +143,7 @@ loop-again-2 c =
     let d = c .before .before .before .before .before in
     let k = called (d .before .before .before) in
     let r = c .before .before .before .put-record in
-    (rw (c .after-step .ensures) (goes-further (at-loop k .loop .inv .0) (further k _ _ _ (d .before .advanced2 .given .1)) (r .ensures) (r .kept .0)), slots-long k)
+    (rw (c .after-step .ensures) (goes-further (at-loop k .loop .inv .0) (further k _ _ _ (d .before .advanced2 .given .1)) (r .ensures) (r .kept .0)), slots-long k, nodes-long k)
 
 enum-told : tie.Need-enum-told Inv-loop μ-loop
 enum-told c = search needs
@@ -156,16 +159,16 @@ same-length : tie.Need-same-length Inv-loop μ-loop
 same-length c = at-loop (called (c .before .before)) .loop .inv .0 .list-long
 
 same-length-2 : tie.Need-same-length-2 Inv-loop μ-loop
-same-length-2 c = fits-still c .own-long ∙ sym (entry (at-loop (called (c .before .before))) .pre .1 .0 .own-long)
+same-length-2 c = nodes-long (called (c .before .before))
 
 same-length-3 : tie.Need-same-length-3 Inv-loop μ-loop
-same-length-3 c = fits-still c .first-long ∙ sym (entry (at-loop (called (c .before .before))) .pre .1 .0 .first-long)
+same-length-3 c = let k = called (c .before .before) in fits-still c .first-long ∙ nodes-long k ∙ sym (entry (at-loop k) .pre .1 .0 .first-long)
 
 same-length-4 : tie.Need-same-length-4 Inv-loop μ-loop
-same-length-4 c = fits-still c .second-long ∙ sym (entry (at-loop (called (c .before .before))) .pre .1 .0 .second-long)
+same-length-4 c = let k = called (c .before .before) in fits-still c .second-long ∙ nodes-long k ∙ sym (entry (at-loop k) .pre .1 .0 .second-long)
 
 same-length-5 : tie.Need-same-length-5 Inv-loop μ-loop
-same-length-5 c = fits-still c .sizes-long ∙ sym (entry (at-loop (called (c .before .before))) .pre .1 .0 .sizes-long)
+same-length-5 c = let k = called (c .before .before) in fits-still c .sizes-long ∙ nodes-long k ∙ sym (entry (at-loop k) .pre .1 .0 .sizes-long)
 
 same-length-6 : tie.Need-same-length-6 Inv-loop μ-loop
 same-length-6 c = fits-still c .stack-long ∙ sym (entry (at-loop (called (c .before .before))) .pre .1 .0 .stack-long)
@@ -182,16 +185,16 @@ same-length-8 : tie.Need-same-length-8 Inv-loop μ-loop
 same-length-8 c = c .before .before .loop .inv .0 .list-long
 
 same-length-9 : tie.Need-same-length-9 Inv-loop μ-loop
-same-length-9 c = let l = c .before .before in l .loop .inv .0 .fits .own-long ∙ sym (entry l .pre .1 .0 .own-long)
+same-length-9 c = c .before .before .loop .inv .2
 
 same-length-10 : tie.Need-same-length-10 Inv-loop μ-loop
-same-length-10 c = let l = c .before .before in l .loop .inv .0 .fits .first-long ∙ sym (entry l .pre .1 .0 .first-long)
+same-length-10 c = let l = c .before .before in l .loop .inv .0 .fits .first-long ∙ l .loop .inv .2 ∙ sym (entry l .pre .1 .0 .first-long)
 
 same-length-11 : tie.Need-same-length-11 Inv-loop μ-loop
-same-length-11 c = let l = c .before .before in l .loop .inv .0 .fits .second-long ∙ sym (entry l .pre .1 .0 .second-long)
+same-length-11 c = let l = c .before .before in l .loop .inv .0 .fits .second-long ∙ l .loop .inv .2 ∙ sym (entry l .pre .1 .0 .second-long)
 
 same-length-12 : tie.Need-same-length-12 Inv-loop μ-loop
-same-length-12 c = let l = c .before .before in l .loop .inv .0 .fits .sizes-long ∙ sym (entry l .pre .1 .0 .sizes-long)
+same-length-12 c = let l = c .before .before in l .loop .inv .0 .fits .sizes-long ∙ l .loop .inv .2 ∙ sym (entry l .pre .1 .0 .sizes-long)
 
 same-length-13 : tie.Need-same-length-13 Inv-loop μ-loop
 same-length-13 c = let l = c .before .before in l .loop .inv .0 .fits .stack-long ∙ sym (entry l .pre .1 .0 .stack-long)
