@@ -1,7 +1,7 @@
 /* Unfolds the first trial tray, `1 2 66` (action 1 merged with action 2), and prints the plan reached and the steps. Build and run:
  *
- *   rt staticlib exports
- *   cc -Iinclude examples/unfold_tray.c target/staticlib/libexports.a -o target/unfold_tray && target/unfold_tray
+ *   rt staticlib aberulwy_c
+ *   cc -Iinclude examples/unfold_tray.c target/staticlib/libaberulwy_c.a -o target/unfold_tray && target/unfold_tray
  */
 #include "aberulwy.h"
 

@@ -1,4 +1,4 @@
-/* Aberulwy: verified process algebra. The public calls for C, as crate `exports` defines them.
+/* Aberulwy: verified process algebra. The public calls for C, as crate `aberulwy_c` defines them.
  *
  * What is returned: document 01's number, 0 where nothing is refused and nothing stops the call. aberulwy_reached and aberulwy_list_station, which
  * have no number there, return 0, or 1 where the area handed in is too short. All else that a call answers is in its out numbers (size_t *), each
@@ -8,11 +8,11 @@
  * A call takes slices of any length, each a pointer and a length, reads and writes nothing else, and ends. What it may write to must not overlap
  * anything else handed to it, and no pointer may be null, even where its length is 0.
  *
- * Stack: allow 640 KiB for aberulwy_list_station, 512 KiB for aberulwy_unfold and aberulwy_unfold_checked, 128 KiB for aberulwy_check, and 64 KiB
- * for each other call. Measured in threads on x86-64 Linux, they run with 508, 380, 92 and 28 KiB, and each faults with 8 KiB less. Nothing is
- * allocated.
+ * Stack: allow 640 KiB for aberulwy_list_station, 512 KiB for aberulwy_unfold and aberulwy_unfold_checked, 128 KiB for aberulwy_check_rewriting, and
+ * 64 KiB for each other call. Measured in threads on x86-64 Linux, the first three need 486, 354 and 86 KiB, and the others at most 32. Nothing
+ * is allocated.
  *
- * The archive is made by `rt staticlib exports`: target/staticlib/libexports.a.
+ * The archive is made by `rt staticlib aberulwy_c`: target/staticlib/libaberulwy_c.a.
  */
 #ifndef ABERULWY_H
 #define ABERULWY_H
@@ -45,9 +45,9 @@ uint8_t aberulwy_unfold(const uint8_t *tables, size_t tables_len, const uint8_t 
 
 /* Unfolds a plan as aberulwy_unfold does, with the same number returned and the same *steps, *size and *place, and then checks the unfolding's own
  * rewriting, from the given plan to the plan reached, in areas c and d. *checked is 1 where that check was made, and 0 where the unfolding was
- * refused, which leaves c and d as they are. *own_number, *own_steps, *own_size and *own_place are what aberulwy_check returns and sets for that
- * check, and it leaves c and d as aberulwy_check does a and b; all four are 0 where no check was made. Where c is as long as a, and d as b,
- * a check that is made accepts: that is proved. */
+ * refused, which leaves c and d as they are. *own_number, *own_steps, *own_size and *own_place are what aberulwy_check_rewriting returns and sets
+ * for that check, and it leaves c and d as aberulwy_check_rewriting does a and b; all four are 0 where no check was made. Where c is as long as a,
+ * and d as b, a check that is made accepts: that is proved. */
 uint8_t aberulwy_unfold_checked(const uint8_t *tables, size_t tables_len, const uint8_t *plan, size_t plan_len, uint32_t allowance, uint8_t *list,
                                 size_t list_len, uint8_t *a, size_t a_len, uint8_t *b, size_t b_len, uint8_t *c, size_t c_len, uint8_t *d,
                                 size_t d_len, size_t *steps, size_t *size, size_t *place, size_t *checked, size_t *own_number, size_t *own_steps,
@@ -62,9 +62,9 @@ uint8_t aberulwy_reached(const uint8_t *a, size_t a_len, const uint8_t *b, size_
 /* Checks a rewriting from a start plan to a claimed end plan. Returns 0 where it is accepted, or 31 (a law does not fit), 32 (a plan too long) or 33
  * (another end) where it is turned back; *steps is then the count of steps made and *size that of the words of the plan reached. Or returns 1 to 8,
  * 11 to 18, which leave the areas as they are. The areas are left as by aberulwy_unfold. */
-uint8_t aberulwy_check(const uint8_t *tables, size_t tables_len, const uint8_t *start, size_t start_len, const uint8_t *claimed,
-                       size_t claimed_len, const uint8_t *rewriting, size_t rewriting_len, uint8_t *a, size_t a_len, uint8_t *b, size_t b_len,
-                       size_t *steps, size_t *size, size_t *place);
+uint8_t aberulwy_check_rewriting(const uint8_t *tables, size_t tables_len, const uint8_t *start, size_t start_len, const uint8_t *claimed,
+                                 size_t claimed_len, const uint8_t *rewriting, size_t rewriting_len, uint8_t *a, size_t a_len, uint8_t *b,
+                                 size_t b_len, size_t *steps, size_t *size, size_t *place);
 
 /* Reads a station file into a tables area and a plan area. Returns 0, and then *size is the plan's length; the tables stand in the first 2,305
  * bytes of their area and the plan in the first *size bytes of its own, with zeros behind both. Or returns 51 to 55, then 1 to 8, 11 to 14, which

@@ -32,6 +32,18 @@ pub enum Answer {
 }
 
 impl Answer {
+    /// Accepted (0), or turned back by how far it had come (31, 32 or 33).
+    pub fn ended(number: u8, steps: usize, size: usize) -> Answer {
+        match number {
+            0 => Answer::Accepted { steps, size },
+            _ => Answer::Back {
+                number,
+                steps,
+                size,
+            },
+        }
+    }
+
     /// The number of the refusal; 0 if accepted.
     pub fn number(&self) -> u8 {
         match self {
@@ -44,7 +56,7 @@ impl Answer {
 
 /// Checks a rewriting: "Given tables, start plan, claimed end plan, rewriting, areas A
 /// and B."
-pub fn check(
+pub fn check_rewriting(
     tables: &[u8],
     start: &[u8],
     claimed: &[u8],
@@ -58,15 +70,7 @@ pub fn check(
     }
     let (number, run) = replay(tables, start, claimed, rewriting, room);
     run.leave_in(a, b);
-    let (steps, size) = (run.steps, run.plan.len());
-    match number {
-        0 => Answer::Accepted { steps, size },
-        _ => Answer::Back {
-            number,
-            steps,
-            size,
-        },
-    }
+    Answer::ended(number, run.steps, run.plan.len())
 }
 
 /// "Checker, after the start plan: 18 claimed plan would get 11 to 14; then 15 for the

@@ -1,6 +1,6 @@
 //! An unfolding, and then the check of its own rewriting.
 
-use crate::checking::{self, check};
+use crate::checking::{self, check_rewriting};
 use crate::runs::reached;
 use crate::unfolding::{self, unfold, RECORD};
 
@@ -21,7 +21,14 @@ pub fn unfold_checked(
         unfolding::Answer::Refused(_) => None,
         unfolding::Answer::Ended { steps, size, .. } => {
             let claimed = reached(a, b, steps, size);
-            Some(check(tables, plan, claimed, &list[..RECORD * steps], c, d))
+            Some(check_rewriting(
+                tables,
+                plan,
+                claimed,
+                &list[..RECORD * steps],
+                c,
+                d,
+            ))
         }
     };
     (unfolded, own)

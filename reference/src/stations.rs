@@ -2,7 +2,7 @@
 
 use crate::plans::{judge, orders};
 use crate::refusals::Refusal;
-use crate::runs::set;
+use crate::runs::{reached, set};
 use crate::tables::TABLES_LENGTH;
 use crate::unfolding::{unfold, Answer, RECORD};
 use std::fmt::Write;
@@ -164,8 +164,8 @@ pub fn program(input: &[u8]) -> String {
             steps,
             size,
         } => {
-            let reached = if steps.is_multiple_of(2) { &a } else { &b };
-            ended_text(number, &reached[..size], &list[..RECORD * steps])
+            let reached = reached(&a, &b, steps, size);
+            ended_text(number, reached, &list[..RECORD * steps])
         }
     }
 }

@@ -66,7 +66,7 @@ pub fn unfold(
 
 /// "judges the tables (1 to 8), then the plan (11 to 14), before its other refusals";
 /// "15 plan longer than C".
-fn judge_handed_in(tables: &[u8], plan: &[u8], room: usize) -> Result<(), Refusal> {
+pub fn judge_handed_in(tables: &[u8], plan: &[u8], room: usize) -> Result<(), Refusal> {
     judge(tables, plan)?;
     if plan.len() > room {
         return Err(Refusal::nowhere(15));

@@ -1,6 +1,6 @@
 //! What holds of all cases, tried on thousands of random ones.
 
-use reference::checking::{self, check};
+use reference::checking::{self, check_rewriting};
 use reference::laws::{apply, next_step};
 use reference::plans::{is_basic, judge, judge_plan, orders, starts, subplan, term, words};
 use reference::random::cases::*;
@@ -116,11 +116,11 @@ fn accepted_means_alike_for_every_law() {
         laws.extend(made.rewriting.iter().step_by(3).copied());
         let (mut a, mut b) = (vec![7; made.longest], vec![7; made.longest]);
         let (claimed, rewriting) = (&made.end, &made.rewriting);
-        let answer = check(&tables, &start, claimed, rewriting, &mut a, &mut b);
+        let answer = check_rewriting(&tables, &start, claimed, rewriting, &mut a, &mut b);
         assert_eq!(answer.number(), 0);
         assert!(alike(&tables, &start, claimed), "{start:?} {claimed:?}");
         let other = small_plan(&mut random, tables[0], 5);
-        let answer = check(&tables, &start, &other, rewriting, &mut a, &mut b);
+        let answer = check_rewriting(&tables, &start, &other, rewriting, &mut a, &mut b);
         assert_eq!(answer.number(), if other == *claimed { 0 } else { 33 });
         differing += usize::from(answer.number() == 33);
     }
@@ -304,7 +304,7 @@ fn a_long_replay_is_quick() {
     let record = unfolding::record(1, place);
     let rewriting = record.repeat(4000);
     let (mut a, mut b) = (vec![0; 8191], vec![0; 8191]);
-    let answer = check(&tables, &start, &start, &rewriting, &mut a, &mut b);
+    let answer = check_rewriting(&tables, &start, &start, &rewriting, &mut a, &mut b);
     assert_eq!(
         answer,
         checking::Answer::Accepted {

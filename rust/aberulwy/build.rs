@@ -1,8 +1,8 @@
-//! Links the proved archive, `libexports.a`.
+//! Links the proved archive, `libaberulwy_c.a`.
 //!
 //! It is looked for in the folder that the environment variable `ABERULWY_ARCHIVE_DIR`
 //! names (an absolute path), else in `target/staticlib` of the repository, where `rt
-//! staticlib exports` writes it.
+//! staticlib aberulwy_c` writes it.
 
 use std::env;
 use std::path::PathBuf;
@@ -15,14 +15,14 @@ fn main() {
         Some(folder) => PathBuf::from(folder),
         None => PathBuf::from(env!("CARGO_MANIFEST_DIR")).join("../../target/staticlib"),
     };
-    let archive = folder.join("libexports.a");
+    let archive = folder.join("libaberulwy_c.a");
     if !archive.is_file() {
         println!(
-            "cargo::warning=no {}: run `rt staticlib exports` in the repository's root, or set {FOLDER_VARIABLE}",
+            "cargo::warning=no {}: run `rt staticlib aberulwy_c` in the repository's root, or set {FOLDER_VARIABLE}",
             archive.display()
         );
     }
     println!("cargo::rerun-if-changed={}", archive.display());
     println!("cargo::rustc-link-search=native={}", folder.display());
-    println!("cargo::rustc-link-lib=static=exports");
+    println!("cargo::rustc-link-lib=static=aberulwy_c");
 }

@@ -3,7 +3,7 @@ use Prim.Native.Nat.{ℕ, suc, zero, _%_}
 use native.Mathlib.Omega.{arith}
 use mathlib.Core.Path.{_≡_, refl}
 use mathlib.Core.Bool.{true, false}
-use Rattle.buffer.specs.Areas.{even?}
+use Rattle.areas.specs.Reached.{even?}
 
 pub parity : (k : ℕ) → (k % 2 ≡ 0 → even? k ≡ true) × (k % 2 ≡ 1 → even? k ≡ false)
 unfolding even?

@@ -11,7 +11,8 @@ use Rattle.refusals.specs.declared.Refusal.{Refusal}
 use Rattle.refusals.specs.Refusal.{Report}
 use Rattle.tables.specs.Tables.{Tables}
 use Rattle.areas.specs.Area.{padded}
-use Rattle.buffer.specs.Areas.{capacity, even?}
+use Rattle.areas.specs.Reached.{capacity, even?, reached-part}
+use Rattle.rewritings.specs.Records.{bytes-of}
 use Rattle.unfolding.specs.declared.Unfolded.{Unfolded}
 use Rattle.unfolding.specs.declared.Unfolded.the-variants.{Finished, Stopped, Refused as Not-unfolded}
 use Rattle.unfolding.specs.Unfolding.{Run, run-of, unfolded, unfold-refusal, unfold-outcome, UnfoldOutcome}
@@ -20,9 +21,10 @@ use Rattle.checking.specs.declared.Checked.{Checked}
 use Rattle.checking.specs.declared.Checked.the-variants.{Accepted, TurnedBack}
 use Rattle.checking.specs.Checking.{Replay, replay-of, checked, check-refusal, check-outcome, CheckOutcome}
 use Rattle.checking.specs.Checking as checking-of
-use Rattle.demands.specs.Claims.{Reports, finished, stopped, reached-part, own-rewriting, UnfoldClaims, CheckClaims, StepClaims}
+use Rattle.demands.specs.Claims.{UnfoldGiven, CheckGiven, Reports, finished, stopped, own-rewriting, UnfoldClaims, CheckClaims, StepClaims}
 use Rattle.aberulwy.specs.declared.OwnCheck.the-variants.{Checked as Checked-as, NotChecked as Nothing-checked}
-use Rattle.demands.proofs.Claims.{unfold-claims, check-claims, take-padded, reached-is, run-records-long}
+use Rattle.demands.proofs.Running.{run-records-long}
+use Rattle.demands.proofs.Claims.{unfold-claims, check-claims, take-padded, reached-is, reports-run}
 use Rattle.demands.proofs.Single.{step-claims}
 use Rattle.aberulwy.specs.Rewriting.{unfold-report, check-report, own-report, reported-run, reported-replay, reported-own, OwnOutcome, BothOutcome, own-outcome, check-own, both-outcome, OwnAccepted}
 
@@ -46,6 +48,9 @@ replay-numbers r = go (eqb (r .number) 0) refl
 
 -- the outcome of an unfolding carries everything that its contract says
 module _ (t : Tables) (plan : List ℕ) (m : ℕ) (list a b : List ℕ) where
+  abbrev unfold-given : UnfoldGiven
+  unfold-given = record { tables = t; plan = plan; allowance = m; list = list; a = a; b = b }
+
   unfold-numbers : unfold-report (unfold-outcome t plan m list a b .answer) ≡ reported-run (unfold-refusal t plan (capacity a b)) (run-of t plan m (length list) (capacity a b))
   unfolding unfold-outcome
   unfold-numbers = go (unfold-refusal t plan (capacity a b))
@@ -58,17 +63,20 @@ module _ (t : Tables) (plan : List ℕ) (m : ℕ) (list a b : List ℕ) where
   pub unfold-contract : (o : UnfoldOutcome) → o ≡ unfold-outcome t plan m list a b
       → (o ≡ unfold-outcome t plan m list a b)
       × ((unfold-report (o .answer) ≡ reported-run (unfold-refusal t plan (capacity a b)) (run-of t plan m (length list) (capacity a b)))
-      × UnfoldClaims t plan list a b (o .answer) (o .list) (o .a) (o .b))
+      × UnfoldClaims unfold-given o)
   unfold-contract o e = (
     e,
     (
       ap (λ (x : UnfoldOutcome). unfold-report (x .answer)) e ∙ unfold-numbers,
-      subst (λ (x : UnfoldOutcome). UnfoldClaims t plan list a b (x .answer) (x .list) (x .a) (x .b)) (sym e) (unfold-claims t plan m list a b),
+      subst (UnfoldClaims unfold-given) (sym e) (unfold-claims t plan m list a b),
     ),
   )
 
 -- and so does that of a check
 module _ (t : Tables) (start claimed rewriting a b : List ℕ) where
+  abbrev check-given : CheckGiven
+  check-given = record { tables = t; start = start; claimed = claimed; rewriting = rewriting; a = a; b = b }
+
   check-numbers : check-report (check-outcome t start claimed rewriting a b .answer)
       ≡ reported-replay (check-refusal t start claimed rewriting (capacity a b)) (replay-of t start claimed rewriting (capacity a b))
   unfolding check-outcome
@@ -82,14 +90,14 @@ module _ (t : Tables) (start claimed rewriting a b : List ℕ) where
   pub check-contract : (o : CheckOutcome) → o ≡ check-outcome t start claimed rewriting a b
       → (o ≡ check-outcome t start claimed rewriting a b)
       × ((check-report (o .answer) ≡ reported-replay (check-refusal t start claimed rewriting (capacity a b)) (replay-of t start claimed rewriting (capacity a b)))
-      × (CheckClaims t start claimed (o .answer) × StepClaims t start claimed rewriting a b (o .answer) (o .a) (o .b)))
+      × (CheckClaims t start claimed (o .answer) × StepClaims check-given o))
   check-contract o e = (
     e,
     (
       ap (λ (x : CheckOutcome). check-report (x .answer)) e ∙ check-numbers,
       (
         subst (λ (x : CheckOutcome). CheckClaims t start claimed (x .answer)) (sym e) (check-claims t start claimed rewriting a b),
-        subst (λ (x : CheckOutcome). StepClaims t start claimed rewriting a b (x .answer) (x .a) (x .b)) (sym e) (step-claims t start claimed rewriting a b),
+        subst (StepClaims check-given) (sym e) (step-claims t start claimed rewriting a b),
       ),
     ),
   )
@@ -102,36 +110,30 @@ module _ (t : Tables) (plan : List ℕ) (m : ℕ) (list a b c d : List ℕ) wher
   own-answer o finished = refl
   own-answer o stopped = refl
 
-  reports-run : (r : Run) → Reports (unfolded r) (r .steps) (length (r .plan))
-  reports-run r = go (eqb (r .number) 0)
-    where
-      go : (x : Bool) → Reports (cond x (Finished (r .steps) (length (r .plan))) (Stopped (r .number) (r .steps) (length (r .plan)))) (r .steps) (length (r .plan))
-      go true = finished
-      go false = stopped
-
-  records-kept : (r : Run) (n : ℕ) → length (r .records) ≡ 3 * (r .steps) → own-rewriting (r .steps) (padded (r .records) n) ≡ r .records
+  records-kept : (r : Run) (n : ℕ) → length (bytes-of (r .moves)) ≡ 3 * (r .steps)
+      → own-rewriting (r .steps) (padded (bytes-of (r .moves)) n) ≡ bytes-of (r .moves)
   unfolding own-rewriting
-  records-kept r n h = rw (← h) (take-padded (r .records) n)
+  records-kept r n h = rw (← h) (take-padded (bytes-of (r .moves)) n)
 
   -- the areas and the list hold what the run reached and recorded, and that is what the check is handed
-  own-replayed : (r : Run) → length (r .records) ≡ 3 * (r .steps)
+  own-replayed : (r : Run) → length (bytes-of (r .moves)) ≡ 3 * (r .steps)
       → own-report (check-own t plan (unfolding-of.settled r list a b) (unfolded r) c d .answer)
-      ≡ some (reported-replay (check-refusal t plan (r .plan) (r .records) (capacity c d)) (replay-of t plan (r .plan) (r .records) (capacity c d)))
+      ≡ some (reported-replay (check-refusal t plan (r .plan) (bytes-of (r .moves)) (capacity c d)) (replay-of t plan (r .plan) (bytes-of (r .moves)) (capacity c d)))
   own-replayed r h =
       rw (own-answer (unfolding-of.settled r list a b) (reports-run r), reached-is (even? (r .steps)) (r .plan) (r .before) (length a) (length b), records-kept r (length list) h)
-      (ap (λ (x : Report). some x) (check-numbers t plan (r .plan) (r .records) c d))
+      (ap (λ (x : Report). some x) (check-numbers t plan (r .plan) (bytes-of (r .moves)) c d))
 
   own-numbers : own-report (check-own t plan (unfold-outcome t plan m list a b) (unfold-outcome t plan m list a b .answer) c d .answer)
       ≡ reported-own (unfold-refusal t plan (capacity a b)) t plan (run-of t plan m (length list) (capacity a b)) (capacity c d)
   unfolding unfold-outcome check-own
-  own-numbers = go (unfold-refusal t plan (capacity a b)) refl
+  own-numbers = go (unfold-refusal t plan (capacity a b))
     where
-      go : (o : Option Refusal) → unfold-refusal t plan (capacity a b) ≡ o
+      go : (o : Option Refusal)
           → own-report (check-own t plan (unfolding-of.unless-refused o (run-of t plan m (length list) (capacity a b)) list a b)
           (unfolding-of.unless-refused o (run-of t plan m (length list) (capacity a b)) list a b .answer) c d .answer)
           ≡ reported-own o t plan (run-of t plan m (length list) (capacity a b)) (capacity c d)
-      go none e = own-replayed (run-of t plan m (length list) (capacity a b)) (run-records-long t plan m (length list) a b e)
-      go (some f) e = refl
+      go none = own-replayed (run-of t plan m (length list) (capacity a b)) (run-records-long t plan m (length list) (capacity a b))
+      go (some f) = refl
 
   -- what is left, in 01's numbers, and what is claimed of it
   abbrev Left : UnfoldOutcome → OwnOutcome → Type 0
@@ -139,7 +141,7 @@ module _ (t : Tables) (plan : List ℕ) (m : ℕ) (list a b c d : List ℕ) wher
       (_≡_ {A = BothOutcome} (record { unfolded = o; own = w }) (both-outcome t plan m list a b c d))
       × (((unfold-report (o .answer) ≡ reported-run (unfold-refusal t plan (capacity a b)) (run-of t plan m (length list) (capacity a b)))
       × (own-report (w .answer) ≡ reported-own (unfold-refusal t plan (capacity a b)) t plan (run-of t plan m (length list) (capacity a b)) (capacity c d)))
-      × (UnfoldClaims t plan list a b (o .answer) (o .list) (o .a) (o .b) × OwnAccepted (o .answer) (w .answer) a b c d))
+      × (UnfoldClaims (unfold-given t plan m list a b) o × OwnAccepted (o .answer) (w .answer) a b c d))
 
   pub both-contract : (o : UnfoldOutcome) (w : OwnOutcome) → o ≡ unfold-outcome t plan m list a b → w ≡ check-own t plan o (o .answer) c d → Left o w
   unfolding both-outcome

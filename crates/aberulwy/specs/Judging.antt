@@ -1,30 +1,17 @@
--- What the calls that judge, and the calls on accepted plans, answer; and what is claimed of them. (01, "Plans" and "Orders"; demand 2, last sentence.)
-use Prim.Native.Nat.{ℕ, _≤_}
-use mathlib.Core.Path.{_≡_}
+-- What the calls on accepted plans answer. (01, "Plans" and "Orders".)
+use Prim.Native.Nat.{ℕ}
 use mathlib.Core.Bool.{Bool, true, false}
 use mathlib.Core.List.{List, [], _∷_}
 use mathlib.Core.Option.{Option, none, some}
-use lib.ListN.{length}
 use Rattle.refusals.specs.declared.Refusal.{Refusal}
 use Rattle.refusals.specs.Refusal.{Report, refused-report}
 use Rattle.tables.specs.Tables.{Tables, actions}
-use Rattle.tables.specs.Lawful.{Lawful}
-use Rattle.plans.specs.Term.{Term, words, Over}
 use Rattle.plans.specs.Judging.{plan-refusal}
-use Rattle.plans.specs.Basic.{Basic, basic-words?, orders-of}
+use Rattle.plans.specs.Basic.{basic-words?, orders-of}
 use Rattle.aberulwy.specs.declared.BasicAnswer.{BasicAnswer}
 use Rattle.aberulwy.specs.declared.BasicAnswer.the-variants.{Yes, No, Refused as Not-judged}
 use Rattle.aberulwy.specs.declared.OrdersAnswer.{OrdersAnswer}
 use Rattle.aberulwy.specs.declared.OrdersAnswer.the-variants.{Count, Refused as Not-counted}
-
--- A plan that is accepted: lawful tables, and "1 to 16,384 bytes … in postfix order" that are the words of one term over the actions 0 to n.
-pub record AcceptedPlan (t : Tables) (ws : List ℕ) : Type 0 where
-  pub lawful : Lawful t
-  pub term : Term
-  pub spelled : words term ≡ ws
-  pub over : Over (actions t) term
-  pub some-words : 1 ≤ length ws
-  pub few-words : length ws ≤ 16384
 
 -- whether a plan is basic, where nothing is refused
 abbrev pub basic-of : Option Refusal → Bool → BasicAnswer
@@ -45,11 +32,6 @@ basic-report (Not-judged r) = refused-report r
 abbrev pub bit : Bool → ℕ
 bit true = 1
 bit false = 0
-
--- "basic goes by the words": the words are those of a basic term
-pub record BasicPlan (t : Tables) (ws : List ℕ) : Type 0 where
-  pub plan : AcceptedPlan t ws
-  pub basic : Basic (plan .term)
 
 -- the orders of a plan, where nothing is refused
 abbrev pub orders-given : Option Refusal → ℕ → OrdersAnswer

@@ -5,7 +5,8 @@ use mathlib.Core.List.{List, [], _∷_}
 use mathlib.Core.Option.{Option, none, some}
 use lib.ListN.{length}
 use Rattle.tables.specs.Tables.{Tables}
-use Rattle.buffer.specs.Areas.{even?}
+use Rattle.areas.specs.Reached.{even?, reached-part}
+use Rattle.rewritings.specs.Records.{bytes-of}
 use Rattle.refusals.specs.declared.Refusal.{Refusal}
 use Rattle.refusals.specs.Refusal.{Report, refused-report}
 use Rattle.unfolding.specs.declared.Unfolded.{Unfolded}
@@ -14,7 +15,7 @@ use Rattle.unfolding.specs.Unfolding.{Run, unfold-outcome, UnfoldOutcome}
 use Rattle.checking.specs.declared.Checked.{Checked}
 use Rattle.checking.specs.declared.Checked.the-variants.{Accepted, TurnedBack, Refused as Not-checked}
 use Rattle.checking.specs.Checking.{Replay, replay-of, check-refusal, check-outcome, CheckOutcome}
-use Rattle.demands.specs.Claims.{Reports, reached-part, own-rewriting}
+use Rattle.demands.specs.Claims.{Reports, own-rewriting}
 use Rattle.aberulwy.specs.declared.OwnCheck.{OwnCheck}
 use Rattle.aberulwy.specs.declared.OwnCheck.the-variants.{Checked as Checked-as, NotChecked as Nothing-checked}
 
@@ -45,9 +46,10 @@ own-report (Checked-as x) = some (check-report x)
 own-report Nothing-checked = none
 
 -- what is reported of that check, with at most c words to a plan: none where the unfolding is refused; else what is reported of the replay of the
--- run's records, from the given plan to the plan that the run reached
+-- records of the run's steps, from the given plan to the plan that the run reached
 abbrev pub reported-own : Option Refusal → Tables → List ℕ → Run → ℕ → Option Report
-reported-own none t plan r c = some (reported-replay (check-refusal t plan (r .plan) (r .records) c) (replay-of t plan (r .plan) (r .records) c))
+reported-own none t plan r c =
+    some (reported-replay (check-refusal t plan (r .plan) (bytes-of (r .moves)) c) (replay-of t plan (r .plan) (bytes-of (r .moves)) c))
 reported-own (some f) t plan r c = none
 
 -- the check of an unfolding's own rewriting, and everything that both answer and leave

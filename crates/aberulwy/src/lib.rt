@@ -16,15 +16,16 @@ ghost use Rattle.tables.specs.Judging.{table-refusal};
 ghost use Rattle.tables.specs.Lawful.{Lawful};
 ghost use Rattle.plans.specs.Judging.{plan-refusal};
 ghost use Rattle.plans.specs.Basic.{basic-words?, orders-of};
+ghost use Rattle.plans.specs.Accepted.{AcceptedPlan, BasicPlan};
 ghost use lib.ListN.{length, take};
 ghost use Rattle.stations.specs.File.{plan-held, file-refusal, station-outcome, station-report, StationOutcome};
-ghost use Rattle.buffer.specs.Areas.{capacity, even?};
+ghost use Rattle.areas.specs.Reached.{capacity, even?, reached-part};
 ghost use Rattle.unfolding.specs.Unfolding.{run-of, unfold-refusal, unfold-outcome, UnfoldOutcome};
 ghost use Rattle.checking.specs.Checking.{replay-of, check-refusal, check-outcome, CheckOutcome};
-ghost use Rattle.demands.specs.Claims.{reached-part, own-rewriting, UnfoldClaims, CheckClaims, StepClaims};
+ghost use Rattle.demands.specs.Claims.{own-rewriting, UnfoldClaims, CheckClaims, StepClaims};
 ghost use Rattle.aberulwy.specs.Rewriting.{unfold-report, check-report, own-report, reported-run, reported-replay, reported-own, both-outcome, BothOutcome, OwnAccepted};
 ghost use Rattle.aberulwy.specs.declared.BasicAnswer.the-variants.{Yes};
-ghost use Rattle.aberulwy.specs.Judging.{AcceptedPlan, BasicPlan, basic-answer, basic-report, bit, orders-answer, orders-report};
+ghost use Rattle.aberulwy.specs.Judging.{basic-answer, basic-report, bit, orders-answer, orders-report};
 
 // Whether a plan is basic, or why it was not judged.
 pub enum BasicAnswer {
@@ -106,7 +107,7 @@ pub fn unfold(
 ) -> Unfolded
     ensures whole { λ r. ⌜ _≡_ {A = UnfoldOutcome} (record { answer = r; list = now (list .exit); a = now (a .exit); b = now (b .exit) }) (unfold-outcome (now (tables .entry)) (now (plan .entry)) allowance (now (list .entry)) (now (a .entry)) (now (b .entry))) ⌝ }
     ensures numbers { λ r. ⌜ unfold-report r ≡ reported-run (unfold-refusal (now (tables .entry)) (now (plan .entry)) (capacity (now (a .entry)) (now (b .entry)))) (run-of (now (tables .entry)) (now (plan .entry)) allowance (length (now (list .entry))) (capacity (now (a .entry)) (now (b .entry)))) ⌝ }
-    ensures claims { λ r. ⌜ UnfoldClaims (now (tables .entry)) (now (plan .entry)) (now (list .entry)) (now (a .entry)) (now (b .entry)) r (now (list .exit)) (now (a .exit)) (now (b .exit)) ⌝ }
+    ensures claims { λ r. ⌜ UnfoldClaims (record { tables = now (tables .entry); plan = now (plan .entry); allowance = allowance; list = now (list .entry); a = now (a .entry); b = now (b .entry) }) (record { answer = r; list = now (list .exit); a = now (a .exit); b = now (b .exit) }) ⌝ }
 {
     unfolding::unfold(tables, plan, allowance, list, a, b)
 }
@@ -124,9 +125,9 @@ pub fn check_rewriting(
     ensures whole { λ r. ⌜ _≡_ {A = CheckOutcome} (record { answer = r; a = now (a .exit); b = now (b .exit) }) (check-outcome (now (tables .entry)) (now (start .entry)) (now (claimed .entry)) (now (rewriting .entry)) (now (a .entry)) (now (b .entry))) ⌝ }
     ensures numbers { λ r. ⌜ check-report r ≡ reported-replay (check-refusal (now (tables .entry)) (now (start .entry)) (now (claimed .entry)) (now (rewriting .entry)) (capacity (now (a .entry)) (now (b .entry)))) (replay-of (now (tables .entry)) (now (start .entry)) (now (claimed .entry)) (now (rewriting .entry)) (capacity (now (a .entry)) (now (b .entry)))) ⌝ }
     ensures claims { λ r. ⌜ CheckClaims (now (tables .entry)) (now (start .entry)) (now (claimed .entry)) r ⌝ }
-    ensures single { λ r. ⌜ StepClaims (now (tables .entry)) (now (start .entry)) (now (claimed .entry)) (now (rewriting .entry)) (now (a .entry)) (now (b .entry)) r (now (a .exit)) (now (b .exit)) ⌝ }
+    ensures single { λ r. ⌜ StepClaims (record { tables = now (tables .entry); start = now (start .entry); claimed = now (claimed .entry); rewriting = now (rewriting .entry); a = now (a .entry); b = now (b .entry) }) (record { answer = r; a = now (a .exit); b = now (b .exit) }) ⌝ }
 {
-    checking::check(tables, start, claimed, rewriting, a, b)
+    checking::check_rewriting(tables, start, claimed, rewriting, a, b)
 }
 
 // The first words of an area, or all of it where it has fewer.
@@ -199,7 +200,7 @@ fn check_own<'a>(
 {
     let claimed = reached(a, b, steps, size);
     let rewriting = own_records(list, steps);
-    checking::check(tables, plan, claimed, rewriting, c, d)
+    checking::check_rewriting(tables, plan, claimed, rewriting, c, d)
 }
 
 // Unfolds a plan, then checks the unfolding's own rewriting in areas c and d. Where these are as long as a and b, the check accepts: that is
@@ -216,7 +217,7 @@ pub fn unfold_checked(
 ) -> BothAnswers
     ensures whole { λ r. ⌜ _≡_ {A = BothOutcome} (record { unfolded = record { answer = r .unfolded; list = now (list .exit); a = now (a .exit); b = now (b .exit) }; own = record { answer = r .own; a = now (c .exit); b = now (d .exit) } }) (both-outcome (now (tables .entry)) (now (plan .entry)) allowance (now (list .entry)) (now (a .entry)) (now (b .entry)) (now (c .entry)) (now (d .entry))) ⌝ }
     ensures numbers { λ r. ⌜ (unfold-report (r .unfolded) ≡ reported-run (unfold-refusal (now (tables .entry)) (now (plan .entry)) (capacity (now (a .entry)) (now (b .entry)))) (run-of (now (tables .entry)) (now (plan .entry)) allowance (length (now (list .entry))) (capacity (now (a .entry)) (now (b .entry))))) × (own-report (r .own) ≡ reported-own (unfold-refusal (now (tables .entry)) (now (plan .entry)) (capacity (now (a .entry)) (now (b .entry)))) (now (tables .entry)) (now (plan .entry)) (run-of (now (tables .entry)) (now (plan .entry)) allowance (length (now (list .entry))) (capacity (now (a .entry)) (now (b .entry)))) (capacity (now (c .entry)) (now (d .entry)))) ⌝ }
-    ensures claims { λ r. ⌜ UnfoldClaims (now (tables .entry)) (now (plan .entry)) (now (list .entry)) (now (a .entry)) (now (b .entry)) (r .unfolded) (now (list .exit)) (now (a .exit)) (now (b .exit)) ⌝ }
+    ensures claims { λ r. ⌜ UnfoldClaims (record { tables = now (tables .entry); plan = now (plan .entry); allowance = allowance; list = now (list .entry); a = now (a .entry); b = now (b .entry) }) (record { answer = r .unfolded; list = now (list .exit); a = now (a .exit); b = now (b .exit) }) ⌝ }
     ensures accepted { λ r. ⌜ OwnAccepted (r .unfolded) (r .own) (now (a .entry)) (now (b .entry)) (now (c .entry)) (now (d .entry)) ⌝ }
 {
     let unfolded = unfolding::unfold(tables, plan, allowance, &mut *list, &mut *a, &mut *b);

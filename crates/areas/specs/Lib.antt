@@ -1,1 +1,3 @@
 pub mod Area
+pub mod Reached
+pub mod Storing

@@ -1,4 +1,2 @@
-pub mod Starts
 pub mod Whole
 mod NextWord
-mod Putting

@@ -1,36 +1,23 @@
 -- The next word of an accepted plan finds its operands among the starts, and starts where the code says.
-use Prim.Native.Nat.{ℕ, suc, _-_, _≤_, _<_}
+use Prim.Native.Nat.{ℕ, suc, _≤_, _<_}
 use native.Mathlib.Omega.{arith}
-use mathlib.Core.Path.{_≡_, sym, _∙_, subst}
+use mathlib.Core.Path.{_≡_, _∙_, subst}
 use mathlib.Core.List.{List, [], _∷_, _++_, append-assoc}
 use mathlib.Core.Option.{none}
 use lib.ListN.{length, getD, take, drop, length-append}
 use lib.Seq.{drop-cons, take-at}
-use Rattle.plans.specs.declared.Word.{Word}
 use Rattle.plans.specs.Word.{word-of}
 use Rattle.plans.specs.Judging.{words-refusal}
 use Rattle.plans.specs.Start.{start-of}
 use Rattle.plans.proofs.Place.{stack-at}
 use Rattle.plans.proofs.Accepted.{accepted-term}
 use Rattle.buffer.specs.Buffer.{whole, Held}
-use Rattle.buffer.specs.Moves.{start-next, Operands}
-use Rattle.buffer.proofs.Starts.{Begun, at-action, at-one, at-two, begun}
+use Rattle.plans.specs.Start.{start-next, Operands}
+use Rattle.plans.proofs.Starts.{begun, next-operands, next-start}
 use Rattle.buffer.proofs.Whole.{held-gap, read-long}
+use Rattle.areas.specs.Area.{most-words}
 
-module _ (n : ℕ) (v starts : List ℕ) (known : (k : ℕ) → k < length v → getD starts k 0 ≡ start-of n v k) where
-  next-operands : {at : ℕ} {k : Word} → Begun n v at k → Operands k starts (length v)
-  next-operands (at-action e) = tt
-  next-operands (at-one l e) = l
-  next-operands (at-two l a b e) = let q = known (length v - 1) (omega arith) in (l, omega arith, omega arith)
-
-  next-start : {at : ℕ} {k : Word} → Begun n v at k → start-next k starts (length v) ≡ at
-  unfolding start-next
-  next-start (at-action e) = sym e
-  next-start (at-one l e) = known (length v - 1) (omega arith) ∙ sym e
-  next-start (at-two l a b e) =
-      rw (known (length v - 1) (omega arith)) (known (start-of n v (length v - 1) - 1) (omega arith) ∙ sym e)
-
-module _ (n : ℕ) (left starts right : List ℕ) (read rest : ℕ) (few : n ≤ 31) (more : rest < 16384) (h : Held n left starts right read rest)
+module _ (n : ℕ) (left starts right : List ℕ) (read rest : ℕ) (few : n ≤ 31) (more : rest < most-words) (h : Held n left starts right read rest)
     (accepted : words-refusal n (whole left right read rest) ≡ none) where
   take-next : take (suc read) (whole left right read rest) ≡ take read left ++ (getD right rest 0 ∷ [])
   unfolding whole

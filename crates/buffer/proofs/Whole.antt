@@ -2,28 +2,34 @@
 use Prim.Native.Nat.{ℕ, suc, _+_, _-_, _≤_, _<_}
 use native.Mathlib.Omega.{arith}
 use native.Mathlib.Numerals.{add-one}
-use mathlib.Core.Path.{_≡_, refl, ap, sym, _∙_, subst}
-use mathlib.Core.List.{List, [], _∷_, _++_, append-assoc}
-use mathlib.Core.Option.{some}
-use lib.ListN.{length, getD, set, take, drop, length-append, length-drop, length-set}
-use lib.Seq.{length-take-le, take-at, drop-at, take-suc, drop-cons, take-append-le, take-add, take-take, take-suc-set, set-split, getD-set-same, getD-set-other}
-use borrow.Author.Tests.{ne-eqb}
+use mathlib.Core.Path.{_≡_, refl, sym, _∙_, subst}
+use mathlib.Core.List.{List, [], _∷_, _++_, append-nil, append-assoc}
+use lib.ListN.{length, getD, set, take, drop, length-append, length-drop, length-set, drop-of-length-le}
+use lib.Seq.{length-take-le, take-at, drop-at, take-suc, drop-cons, take-add, take-all, take-suc-set, set-split, getD-set-same, getD-set-other}
 use borrow.Author.Count.{below-more}
-use Rattle.areas.specs.Area.{overwrite}
+use Rattle.areas.specs.Area.{overwrite, most-words}
 use Rattle.areas.proofs.Area.{drop-overwrite, overwrite-length}
-use Rattle.plans.specs.Term.{Term, words}
-use Rattle.plans.specs.Place.{subterm, replace}
 use Rattle.plans.specs.Start.{start-of}
+use Rattle.areas.specs.declared.StepState.{StepState}
+use Rattle.areas.specs.Reached.{even?}
+use Rattle.areas.specs.Storing.{stepped, before, Kept}
+use Rattle.areas.proofs.Storing as storing
 use Rattle.buffer.specs.declared.State.{State}
-use Rattle.buffer.specs.Buffer.{whole, Held, stepped, before, Undoable}
+use Rattle.buffer.specs.Buffer.{whole, Held}
 use Rattle.buffer.specs.Moves.{Gap, Shifted}
 use Rattle.plans.proofs.Start.{start-prefix, start-take}
 
 pub held-gap : {n : ℕ} {left starts right : List ℕ} {read rest : ℕ} → Held n left starts right read rest → Gap left right read rest
 held-gap h = record { left-long = h .left-long; right-long = h .right-long; rest-in = h .rest-in; apart = h .apart }
 
+-- words written up to the end
+pub drop-end : (d w : List ℕ) (m : ℕ) → length d ≡ m → length w ≤ m → drop (m - length w) (overwrite d (m - length w) w) ≡ w
+drop-end d w m e h =
+    let k : length d ≤ m - length w + length w = omega arith in
+    rw (drop-overwrite d (m - length w) w (omega arith), drop-of-length-le d k) (append-nil w)
+
 -- nothing is read of a plan just loaded
-pub held-loaded : (n : ℕ) (left starts right : List ℕ) (rest : ℕ) → length left ≡ 16384 → length starts ≡ 16384 → length right ≡ 16384 → rest ≤ 16384
+pub held-loaded : (n : ℕ) (left starts right : List ℕ) (rest : ℕ) → length left ≡ most-words → length starts ≡ most-words → length right ≡ most-words → rest ≤ most-words
     → Held n left starts right 0 rest
 held-loaded n left starts right rest a b c d =
     record {
@@ -37,7 +43,7 @@ held-loaded n left starts right rest a b c d =
 
 -- fewer words read, and any rest behind them
 pub held-fewer : (n : ℕ) (left starts right right′ : List ℕ) (read rest read′ rest′ : ℕ) → Held n left starts right read rest
-    → length right′ ≡ 16384 → read′ ≤ read → read′ ≤ rest′ → rest′ ≤ 16384 → Held n left starts right′ read′ rest′
+    → length right′ ≡ most-words → read′ ≤ read → read′ ≤ rest′ → rest′ ≤ most-words → Held n left starts right′ read′ rest′
 held-fewer n left starts right right′ read rest read′ rest′ h long fewer apart within =
     record {
       left-long = h .left-long;
@@ -63,7 +69,7 @@ module _ (left right : List ℕ) (read rest : ℕ) (g : Gap left right read rest
   pub read-long : length (take read left) ≡ read
   read-long = length-take-le read left (omega arith)
 
-  pub whole-length : length (whole left right read rest) ≡ read + (16384 - rest)
+  pub whole-length : length (whole left right read rest) ≡ read + (most-words - rest)
   unfolding whole
   whole-length = rw (length-append (take read left) (drop rest right), read-long, length-drop rest right, g .right-long) refl
 
@@ -71,22 +77,13 @@ module _ (left right : List ℕ) (read rest : ℕ) (g : Gap left right read rest
   unfolding whole
   take-whole = take-at (take read left) (drop rest right) read read-long
 
-  pub drop-whole : drop read (whole left right read rest) ≡ drop rest right
+  -- its two parts as slices of the arrays
+  pub whole-parts : take read left ++ take (length right - rest) (drop rest right) ≡ whole left right read rest
   unfolding whole
-  drop-whole = drop-at (take read left) (drop rest right) read read-long
-
-  -- up to a place among the words read
-  pub take-read : (k : ℕ) → k ≤ read → take k (whole left right read rest) ≡ take k left
-  unfolding whole
-  take-read k h = take-append-le k (take read left) (drop rest right) (omega (arith, read-long)) ∙ take-take k read left h
-
-  -- the start of a word read goes by the words read
-  pub start-whole : (n k : ℕ) → k < read → start-of n (whole left right read rest) k ≡ start-of n (take read left) k
-  start-whole n k h =
-      sym (start-take n (whole left right read rest) read k (omega (arith, whole-length)) h) ∙ ap (λ l. start-of n l k) take-whole
+  whole-parts = rw (take-all (length right - rest) (drop rest right) (rw (length-drop rest right) (omega arith))) refl
 
 -- the gap moved by a word
-pub forward-whole : (left right : List ℕ) (read rest : ℕ) → Gap left right read rest → rest < 16384
+pub forward-whole : (left right : List ℕ) (read rest : ℕ) → Gap left right read rest → rest < most-words
     → whole (set left read (getD right rest 0)) right (read + 1) (rest + 1) ≡ whole left right read rest
 unfolding whole
 forward-whole left right read rest g more =
@@ -109,7 +106,7 @@ back-whole left right read rest g some-read =
     let b : suc (rest - 1) ≡ rest = omega arith in
     rw (a, b) at (back-suc left right (read - 1) (rest - 1) (omega arith) (omega arith))
 
-pub held-forward : (n : ℕ) (left starts right : List ℕ) (read rest w at : ℕ) → Held n left starts right read rest → rest < 16384
+pub held-forward : (n : ℕ) (left starts right : List ℕ) (read rest w at : ℕ) → Held n left starts right read rest → rest < most-words
     → at ≡ start-of n (take read left ++ (w ∷ [])) read → Held n (set left read w) (set starts read at) right (read + 1) (rest + 1)
 held-forward n left starts right read rest w at h more e =
     record {
@@ -138,47 +135,37 @@ module _ (left right side : List ℕ) (read rest start : ℕ) (g : Gap left righ
       let e : rest - length side + length side ≡ rest = omega arith in
       rw (drop-overwrite right (rest - length side) side (omega arith), e) refl
 
-  pub step-length : length (take start left ++ (side ++ drop rest right)) ≡ start + length side + (16384 - rest)
-  step-length =
-      rw (length-append (take start left) (side ++ drop rest right), length-append side (drop rest right), length-take-le start left (omega arith), length-drop rest right, g .right-long)
-      (omega arith)
-
   pub held-step : (n : ℕ) (starts : List ℕ) → Held n left starts right read rest
       → Held n left starts (overwrite right (rest - length side) side) start (rest - length side)
   held-step n starts h =
       held-fewer n left starts right (overwrite right (rest - length side) side) read rest start (rest - length side) h
       (overwrite-length right (rest - length side) side (omega arith) ∙ g .right-long) within (omega arith) (omega arith)
 
-  -- the words that the step took away, put back
-  module _ (s : State) (old : List ℕ) (rest′ : ℕ) (kept : take (read - start) old ≡ take (read - start) (drop start left)) where
-    pub before-step : before (stepped s start (read - start) (length side) rest′) (take start left ++ (side ++ drop rest right)) old ≡ whole left right read rest
-    unfolding before whole
+  -- the words that the step took away
+  abbrev gone : List ℕ
+  gone = take (read - start) (drop start left)
+
+  gone-long : length gone ≡ read - start
+  gone-long = length-take-le (read - start) (drop start left) (omega (arith, length-drop start left))
+
+  gone-back : take start left ++ (gone ++ drop rest right) ≡ whole left right read rest
+  unfolding whole
+  gone-back =
+      let c : start + (read - start) ≡ read = omega arith in
+      rw (← append-assoc (take start left) gone (drop rest right), ← take-add start (read - start) left, c) refl
+
+  -- where they are kept, they can be put back
+  module _ (s : StepState) (old : List ℕ) (kept : take (read - start) old ≡ gone) where
+    pub before-step : before (stepped s start (read - start) (length side)) (take start left ++ (side ++ drop rest right)) old ≡ whole left right read rest
     before-step =
-        let ts = take start left in
-        let l : length ts ≡ start = length-take-le start left (omega arith) in
-        let a : take start (ts ++ (side ++ drop rest right)) ≡ ts = take-at ts (side ++ drop rest right) start l in
-        let b : drop (start + length side) (ts ++ (side ++ drop rest right)) ≡ drop rest right =
-        rw (← append-assoc ts side (drop rest right)) (drop-at (ts ++ side) (drop rest right) (start + length side) (rw (length-append ts side, l) refl)) in
-        let c : start + (read - start) ≡ read = omega arith in
-        rw (ne-eqb (s .steps + 1) 0 (λ e. omega arith), a, b, kept, ← append-assoc ts (take (read - start) (drop start left)) (drop rest right), ← take-add start (read - start) left, c) refl
+        storing.before-step (take start left) gone side (drop rest right) old s start (read - start) (length side) (length-take-le start left (omega arith)) gone-long refl kept
+        ∙ gone-back
 
-    pub undoable-step : (c : ℕ) → length old ≡ 16384 → length (whole left right read rest) ≤ c
-        → Undoable (stepped s start (read - start) (length side) rest′) (take start left ++ (side ++ drop rest right)) old c
-    undoable-step c long fits =
-        record {
-          old-long = long;
-          old-in = omega arith;
-          new-in = rw step-length (omega arith);
-          before-fits = rw before-step fits;
-        }
-
--- a step at the last word read replaces the subplan there
-pub replace-whole : (left right : List ℕ) (read rest : ℕ) → Gap left right read rest → (n p : ℕ) (t u : Term) → suc p ≡ read
-    → subterm n (whole left right read rest) p ≡ some t
-    → replace (whole left right read rest) p t u ≡ take (start-of n (whole left right read rest) p) left ++ (words u ++ drop rest right)
-unfolding replace start-of
-replace-whole left right read rest g n p t u e q =
-    rw (q, take-read left right read rest g (suc p - length (words t)) (omega arith), e, drop-whole left right read rest g) refl
+    pub kept-step : (c : ℕ) → length (whole left right read rest) ≤ c → length (take start left ++ (side ++ drop rest right)) ≤ c → s .even ≡ even? (s .steps)
+        → Kept c (take start left ++ (side ++ drop rest right)) old (stepped s start (read - start) (length side))
+    kept-step c fits =
+        storing.kept-step (take start left) gone side (drop rest right) old s start (read - start) (length side) (length-take-le start left (omega arith)) gone-long refl kept c
+        (rw gone-back fits)
 
 -- the same said of the state that a move answers
 module _ {left right left′ right′ : List ℕ} {s r : State} {read rest : ℕ} (m : Shifted left right left′ right′ s r read rest) where

@@ -1,3 +1,2 @@
-pub mod Areas
 pub mod Buffer
 pub mod Moves

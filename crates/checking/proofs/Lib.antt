@@ -1,5 +1,4 @@
 pub mod Replaying
-mod Cutting
 mod Judging
 mod Turning
 mod Settling

@@ -19,8 +19,8 @@ use Rattle.laws.specs.Laws.{same-bytes}
 use Rattle.laws.specs.Step.{step, Rewrites, no-step, step-then}
 use Rattle.laws.proofs.Sound.{same-list}
 use Rattle.laws.proofs.Stepping.{chain-alike}
-use Rattle.buffer.specs.Areas.{capacity}
-use Rattle.steps.specs.Records.{Move, moves-of}
+use Rattle.areas.specs.Reached.{capacity}
+use Rattle.rewritings.specs.Records.{Move, moves-of}
 use Rattle.checking.specs.Checking.{Replay, on-step, stop-if, replay, replay-of, check-refusal, check-outcome, checked, unless-refused}
 use Rattle.checking.specs.declared.Checked.the-variants.{Accepted, TurnedBack}
 

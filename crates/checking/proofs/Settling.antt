@@ -9,10 +9,9 @@ use borrow.Author.Tests.{ne-eqb, eq-eqb}
 use Rattle.areas.specs.Area.{padded}
 use Rattle.tables.specs.Tables.{Tables}
 use Rattle.laws.specs.Laws.{same-bytes}
-use Rattle.buffer.specs.Areas.{area-a, area-b}
-use Rattle.buffer.specs.Buffer.{before}
-use Rattle.buffer.specs.Moves.{Stored}
-use Rattle.steps.specs.Records.{moves-of}
+use Rattle.areas.specs.Reached.{area-a, area-b}
+use Rattle.areas.specs.Storing.{before, Stored}
+use Rattle.rewritings.specs.Records.{moves-of}
 use Rattle.steps.specs.Working.{plan-in}
 use Rattle.checking.specs.declared.Checked.{Checked}
 use Rattle.checking.specs.declared.Checked.the-variants.{Accepted, TurnedBack}
@@ -31,17 +30,17 @@ abbrev ended : List ℕ → List ℕ → List ℕ → List ℕ → Last → Repl
 ended claimed left right old r =
     record {
       number = compared (r .number) (plan-in left right (r .state)) claimed;
-      steps = r .state .steps;
+      steps = r .state .made .steps;
       plan = plan-in left right (r .state);
-      before = before (r .state) (plan-in left right (r .state)) old;
+      before = before (r .state .made) (plan-in left right (r .state)) old;
     }
 
 -- the outcome of a check, where the rewriting is replayed and the plans are stored
 module _ (t : Tables) (c : ℕ) (start claimed rewriting w v : List ℕ) (left starts right old : List ℕ) (r : Last) (a b a′ b′ : List ℕ) (size : ℕ)
     (is-w : w ≡ start) (is-v : v ≡ []) (p : Replayed t c (moves-of rewriting) 0 w v left starts right old r)
-    (q : Stored a b a′ b′ (r .state) (plan-in left right (r .state)) old size) where
-  pub reached-plan : take size (cond (r .state .even) a′ b′) ≡ plan-in left right (r .state)
-  reached-plan = rw (q .in-a, q .in-b, q .plan-size) (area-plan (r .state .even) (plan-in left right (r .state)) _ (length a) (length b))
+    (q : Stored a b a′ b′ (r .state .made) (plan-in left right (r .state)) old size) where
+  pub reached-plan : take size (cond (r .state .made .even) a′ b′) ≡ plan-in left right (r .state)
+  reached-plan = rw (q .in-a, q .in-b, q .plan-size) (area-plan (r .state .made .even) (plan-in left right (r .state)) _ (length a) (length b))
 
   settle : (answer : Checked) → answer ≡ checked (ended claimed left right old r) → _≡_ {A = CheckOutcome} (record { answer = answer; a = a′; b = b′ }) (settled (replay-of t start claimed rewriting c) a b)
   unfolding replay-of
@@ -50,16 +49,16 @@ module _ (t : Tables) (c : ℕ) (start claimed rewriting w v : List ℕ) (left s
       rw (o, ← p .kept .parity) (cc (e, q .in-a, q .in-b))
 
   pub settle-stopped : (r .number ≡ 0 → ⊥)
-      → _≡_ {A = CheckOutcome} (record { answer = TurnedBack (r .number) (r .state .steps) size; a = a′; b = b′ }) (settled (replay-of t start claimed rewriting c) a b)
+      → _≡_ {A = CheckOutcome} (record { answer = TurnedBack (r .number) (r .state .made .steps) size; a = a′; b = b′ }) (settled (replay-of t start claimed rewriting c) a b)
   unfolding compared
   settle-stopped h = settle _ (rw (ne-eqb (r .number) 0 h, ne-eqb (r .number) 0 h, q .plan-size) refl)
 
-  pub settle-same : r .number ≡ 0 → same-bytes (take size (cond (r .state .even) a′ b′)) claimed ≡ true
-      → _≡_ {A = CheckOutcome} (record { answer = Accepted (r .state .steps) size; a = a′; b = b′ }) (settled (replay-of t start claimed rewriting c) a b)
+  pub settle-same : r .number ≡ 0 → same-bytes (take size (cond (r .state .made .even) a′ b′)) claimed ≡ true
+      → _≡_ {A = CheckOutcome} (record { answer = Accepted (r .state .made .steps) size; a = a′; b = b′ }) (settled (replay-of t start claimed rewriting c) a b)
   unfolding compared
   settle-same z e = settle _ (rw (eq-eqb (r .number) 0 z, rw reached-plan at e, q .plan-size) refl)
 
-  pub settle-differs : r .number ≡ 0 → same-bytes (take size (cond (r .state .even) a′ b′)) claimed ≡ false
-      → _≡_ {A = CheckOutcome} (record { answer = TurnedBack 33 (r .state .steps) size; a = a′; b = b′ }) (settled (replay-of t start claimed rewriting c) a b)
+  pub settle-differs : r .number ≡ 0 → same-bytes (take size (cond (r .state .made .even) a′ b′)) claimed ≡ false
+      → _≡_ {A = CheckOutcome} (record { answer = TurnedBack 33 (r .state .made .steps) size; a = a′; b = b′ }) (settled (replay-of t start claimed rewriting c) a b)
   unfolding compared
   settle-differs z e = settle _ (rw (eq-eqb (r .number) 0 z, rw reached-plan at e, q .plan-size) refl)

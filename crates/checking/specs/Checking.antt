@@ -1,5 +1,5 @@
 -- The checker: the replay of a rewriting, its answer and what it leaves in the areas. (01, "Checking" and the two sections on turning back.)
-use Prim.Native.Nat.{ℕ, suc, _%_}
+use Prim.Native.Nat.{ℕ, suc}
 use mathlib.Core.Bool.{Bool, true, false, cond, _&&_}
 use mathlib.Core.List.{List, [], _∷_}
 use mathlib.Core.Option.{Option, none, some}
@@ -10,12 +10,12 @@ use Rattle.refusals.specs.declared.Refusal.{Refusal}
 use Rattle.refusals.specs.Refusal.{refuse, or-else}
 use Rattle.tables.specs.Tables.{Tables, actions}
 use Rattle.plans.specs.Judging.{plan-refusal, words-refusal}
-use Rattle.laws.specs.Laws.{same-bytes}
+use Rattle.laws.specs.Laws.{highest-law, same-bytes}
 use Rattle.laws.specs.Step.{step}
 use Rattle.checking.specs.declared.Checked.{Checked}
 use Rattle.checking.specs.declared.Checked.the-variants.{Accepted, TurnedBack, Refused}
-use Rattle.buffer.specs.Areas.{capacity, even?, area-a, area-b}
-use Rattle.steps.specs.Records.{Move, moves-of}
+use Rattle.areas.specs.Reached.{capacity, even?, area-a, area-b}
+use Rattle.rewritings.specs.Records.{Move, moves-of, whole?}
 
 -- a replay: how it ended (0 accepted, or 31 to 33), the steps made, the plan reached and the plan before it
 pub record Replay : Type 0 where
@@ -50,20 +50,21 @@ replay-of t start claimed rewriting c = replay t c claimed (moves-of rewriting) 
 -- "17 law 0 or above 32 (first step)": of the moves from step i on
 unfoldable pub unknown-law : ℕ → List Move → Option Refusal
 unknown-law i [] = none
-unknown-law i (m ∷ ms) = cond (leb 1 (m .law) && leb (m .law) 32) (unknown-law (suc i) ms) (refuse 17 (Step i))
+unknown-law i (m ∷ ms) = cond (leb 1 (m .law) && leb (m .law) highest-law) (unknown-law (suc i) ms) (refuse 17 (Step i))
 
 abbrev pub if-refused : Option Refusal → Option Refusal → Option Refusal
 if-refused none r = none
 if-refused (some f) r = r
 
 -- "Checker, after the start plan: 18 claimed plan would get 11 to 14; then 15 for the start plan only …; 16 rewriting not a multiple of 3;
--- 17 law 0 or above 32 (first step)." Under n actions, with at most c words to a plan.
+-- 17 law 0 or above 32 (first step)." Under n actions, with at most c words to a plan. 16 is a record cut short, which is a length that is not
+-- a multiple of 3 (`whole-by-three`).
 unfoldable pub rewriting-refusal : ℕ → List ℕ → List ℕ → List ℕ → ℕ → Option Refusal
 unfolding unknown-law moves-of
 rewriting-refusal n start claimed rewriting c =
     or-else (if-refused (words-refusal n claimed) (refuse 18 Nowhere))
     (or-else (cond (ltb c (length start)) (refuse 15 Nowhere) none)
-    (or-else (cond (eqb (length rewriting % 3) 0) none (refuse 16 Nowhere)) (unknown-law 0 (moves-of rewriting))))
+    (or-else (cond (whole? rewriting) none (refuse 16 Nowhere)) (unknown-law 0 (moves-of rewriting))))
 
 -- tables and start plan first
 unfoldable pub check-refusal : Tables → List ℕ → List ℕ → List ℕ → ℕ → Option Refusal

@@ -1,10 +1,11 @@
 // The checker: the replay of anybody's rewriting.
+use areas::MOST_WORDS;
 use buffer::State;
-use reader::Record;
 use refusals::Judgement;
 use refusals::Place;
 use refusals::Refusal;
-use steps::Stepping;
+use rewritings::Record;
+use steps::Attempt;
 ghost use mathlib.Core.Path.{_≡_};
 ghost use mathlib.Core.Bool.{cond};
 ghost use mathlib.Core.List.{[]};
@@ -16,12 +17,13 @@ ghost use Rattle.tables.specs.Tables.{actions};
 ghost use Rattle.tables.specs.Lawful.{Lawful};
 ghost use Rattle.plans.specs.Judging.{plan-refusal};
 ghost use Rattle.laws.specs.Laws.{same-bytes};
-ghost use Rattle.buffer.specs.Areas.{capacity};
-ghost use Rattle.buffer.specs.Buffer.{before};
-ghost use Rattle.steps.specs.Records.{moves-of};
-ghost use Rattle.steps.specs.Working.{plan-in, Working, Kept};
+ghost use Rattle.areas.specs.Reached.{capacity};
+ghost use Rattle.areas.specs.Storing.{before, Kept};
+ghost use Rattle.rewritings.specs.Records.{moves-of};
+ghost use Rattle.steps.specs.Working.{plan-in, Working};
 ghost use Rattle.checking.specs.Checking.{unknown-law, replay-of, rewriting-refusal, settled, check-outcome, CheckOutcome};
 ghost use Rattle.checking.specs.Turns.{Replayed};
+ghost use Rattle.areas.specs.Area.{most-words};
 
 // What a check answers: accepted; or turned back by how far it had come (31, 32, 33); or refused by what was handed in.
 pub enum Checked {
@@ -50,13 +52,13 @@ fn judge_laws(rewriting: &[u8]) -> Judgement
     let mut at: usize = 0;
     let mut step: usize = 0;
     loop {
-        let record = reader::record_at(rewriting, at);
+        let record = rewritings::record_at(rewriting, at);
         match record {
             Record::End => {
                 return Judgement::Accepted;
             }
             Record::Step(law, _, next) => {
-                if law < 1 || 32 < law {
+                if law < 1 || laws::HIGHEST_LAW < law {
                     return Judgement::Refused(Refusal {
                         number: 17,
                         place: Place::Step(step),
@@ -89,6 +91,7 @@ fn judge_rewriting(n: u8, start: &[u8], claimed: &[u8], rewriting: &[u8], limit:
             place: Place::Nowhere,
         });
     }
+    // a record is cut short exactly then
     if rewriting.len() % 3 != 0 {
         return Judgement::Refused(Refusal {
             number: 16,
@@ -110,14 +113,14 @@ fn replay_on(
     state: State,
     limit: usize,
 ) -> Last
-    requires { ⌜ (n ≡ actions (now tables)) × Lawful (now tables) × (limit ≤ 16384) × (length (now old) ≡ 16384) × (unknown-law 0 (moves-of (now rewriting)) ≡ none) ⌝ }
-    requires { ⌜ Working (now tables) (now left) (now starts) (now right) state × Kept limit (plan-in (now left) (now right) state) (now old) state × (state .steps ≡ 0) ⌝ }
-    ensures { λ r. ⌜ Replayed (now (tables .entry)) limit (moves-of (now (rewriting .entry))) 0 (plan-in (now (left .entry)) (now (right .entry)) state) (before state (plan-in (now (left .entry)) (now (right .entry)) state) (now (old .entry))) (now (left .exit)) (now (starts .exit)) (now (right .exit)) (now (old .exit)) r ⌝ }
+    requires { ⌜ (n ≡ actions (now tables)) × Lawful (now tables) × (limit ≤ most-words) × (length (now old) ≡ most-words) × (unknown-law 0 (moves-of (now rewriting)) ≡ none) ⌝ }
+    requires { ⌜ Working (now tables) (now left) (now starts) (now right) state × Kept limit (plan-in (now left) (now right) state) (now old) (state .made) × (state .made .steps ≡ 0) ⌝ }
+    ensures { λ r. ⌜ Replayed (now (tables .entry)) limit (moves-of (now (rewriting .entry))) 0 (plan-in (now (left .entry)) (now (right .entry)) state) (before (state .made) (plan-in (now (left .entry)) (now (right .entry)) state) (now (old .entry))) (now (left .exit)) (now (starts .exit)) (now (right .exit)) (now (old .exit)) r ⌝ }
 {
     let mut gap = state;
     let mut at: usize = 0;
     loop {
-        let record = reader::record_at(rewriting, at);
+        let record = rewritings::record_at(rewriting, at);
         match record {
             Record::End => {
                 return Last {
@@ -139,17 +142,17 @@ fn replay_on(
                     limit,
                 );
                 match made {
-                    Stepping::Done(after) => {
+                    Attempt::Done(after) => {
                         gap = after;
                         at = next;
                     }
-                    Stepping::Fails(last) => {
+                    Attempt::Fails(last) => {
                         return Last {
                             number: 31,
                             state: last,
                         };
                     }
-                    Stepping::Long(last) => {
+                    Attempt::Long(last) => {
                         return Last {
                             number: 32,
                             state: last,
@@ -187,10 +190,10 @@ fn check_accepted(
     ensures { λ r. ⌜ _≡_ {A = CheckOutcome} (record { answer = r; a = now (a .exit); b = now (b .exit) }) (settled (replay-of (now (tables .entry)) (now (start .entry)) (now (claimed .entry)) (now (rewriting .entry)) limit) (now (a .entry)) (now (b .entry))) ⌝ }
 {
     let n = tables::actions_of(tables);
-    let mut left = [0u8; 16384];
-    let mut starts = [0u16; 16384];
-    let mut right = [0u8; 16384];
-    let mut old = [0u8; 16384];
+    let mut left = [0u8; MOST_WORDS];
+    let mut starts = [0u16; MOST_WORDS];
+    let mut right = [0u8; MOST_WORDS];
+    let mut old = [0u8; MOST_WORDS];
     let state = buffer::load(start, &mut right);
     let last = replay_on(
         tables,
@@ -203,11 +206,14 @@ fn check_accepted(
         state,
         limit,
     );
-    let end = last.state;
-    let size = buffer::store(&left, &right, &old, end, &mut *a, &mut *b);
     let number = last.number;
-    let steps = end.steps;
-    let even = end.even;
+    let end = last.state;
+    let read = end.read;
+    let rest = end.rest;
+    let made = end.made;
+    let size = areas::store(&left[..read], &right[rest..], &old, made, &mut *a, &mut *b);
+    let steps = made.steps;
+    let even = made.even;
     if number != 0 {
         return Checked::TurnedBack {
             number,
@@ -226,7 +232,7 @@ fn check_accepted(
 }
 
 // Checks a rewriting from a start plan to a claimed end plan.
-pub fn check(
+pub fn check_rewriting(
     tables: &[u8],
     start: &[u8],
     claimed: &[u8],
@@ -243,7 +249,7 @@ pub fn check(
         Judgement::Accepted => {}
     }
     let n = tables::actions_of(tables);
-    let limit = steps::least(a.len(), b.len());
+    let limit = areas::least(a.len(), b.len());
     match judge_rewriting(n, start, claimed, rewriting, limit) {
         Judgement::Refused(refusal) => {
             return Checked::Refused(refusal);

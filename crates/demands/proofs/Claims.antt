@@ -1,7 +1,6 @@
 -- Demand 3, entire: what is claimed of an unfolding and of a check holds of what the definitions say that they answer and leave.
-use Prim.Native.Nat.{ℕ, _≤_, _-_, _*_, _%_}
+use Prim.Native.Nat.{ℕ, _≤_, _<_, _*_}
 use native.Mathlib.Omega.{arith}
-use native.Mathlib.Nat.{mul-mod-right}
 use mathlib.Core.Path.{_≡_, refl, sym, _∙_, ap}
 use mathlib.Core.Bool.{Bool, true, false, cond}
 use mathlib.Core.List.{List, []}
@@ -13,30 +12,31 @@ use lib.Dec.{eqb, ltb}
 use borrow.Author.Tests.{ltb-false, le-ltb, eqb-true, eqb-false}
 use Rattle.refusals.specs.declared.Refusal.{Refusal}
 use Rattle.refusals.proofs.Judging.{none-of-both}
-use Rattle.areas.specs.Area.{padded}
+use Rattle.areas.specs.Area.{padded, most-words}
+use Rattle.areas.specs.Reached.{capacity, even?, area-a, area-b, reached-part}
 use Rattle.tables.specs.Tables.{Tables, actions}
-use Rattle.tables.specs.Judging.{table-refusal}
-use Rattle.tables.specs.Lawful.{Lawful}
 use Rattle.tables.proofs.Lawful.{accepted-iff-lawful}
 use Rattle.plans.specs.Judging.{plan-refusal, words-refusal}
-use Rattle.plans.specs.Basic.{basic-words?}
+use Rattle.plans.specs.Basic.{Basic}
+use Rattle.plans.specs.Accepted.{AcceptedPlan, BasicPlan}
 use Rattle.plans.proofs.Options.{never}
-use Rattle.plans.proofs.Accepted.{accepted-term}
-use Rattle.plans.proofs.Basic.{basic?-iff}
+use Rattle.plans.proofs.Accepted.{plan-accepted-iff, accepted-plan, accepted-reads-as}
 use Rattle.trees.specs.Meaning.{AlikePlans}
+use Rattle.laws.specs.Step.{step}
 use Rattle.laws.proofs.Stepping.{chain-alike}
 use Rattle.laws.proofs.Normal.{no-step-iff-basic}
+use Rattle.rewritings.specs.Records.{bytes-of}
+use Rattle.rewritings.proofs.Bytes.{moves-bytes, bytes-whole}
+use Rattle.rewritings.proofs.Choosing.{none-fits, fits-none}
 use Rattle.unfolding.specs.declared.Unfolded.{Unfolded}
 use Rattle.unfolding.specs.declared.Unfolded.the-variants.{Finished, Stopped, Refused}
+use Rattle.unfolding.specs.Unfolding.{Run, run-of, unfolded, unfold-refusal, unfold-outcome, unless-refused}
 use Rattle.checking.specs.declared.Checked.the-variants.{Accepted}
-use Rattle.buffer.specs.Areas.{capacity, even?, area-a, area-b}
-use Rattle.unfolding.specs.Unfolding.{Run, run-of, unfolded, unfold-refusal, unfold-outcome, settled}
-use Rattle.unfolding.specs.Unfolding as unfolding-of
-use Rattle.checking.specs.Checking.{replay-of, check-refusal, check-outcome}
-use Rattle.demands.specs.Claims.{Reports, finished, stopped, reached-part, own-rewriting, UnfoldClaims, CheckClaims}
-use Rattle.steps.proofs.Choosing.{none-fits, fits-none}
+use Rattle.checking.specs.Checking.{replay-of, rewriting-refusal, check-refusal, check-outcome}
 use Rattle.checking.proofs.Replaying.{accepted-alike}
-use Rattle.demands.proofs.Running.{Followed, followed}
+use Rattle.demands.specs.Claims.{Reports, finished, stopped, own-rewriting, UnfoldClaims, CheckClaims}
+use Rattle.demands.proofs.Running.{Followed, run-followed, run-records-long, run-ends, ends-finished, ends-stopped}
+use Rattle.laws.specs.Laws.{highest-law}
 
 pub take-padded : (w : List ℕ) (n : ℕ) → take (length w) (padded w n) ≡ w
 unfolding padded
@@ -48,72 +48,55 @@ unfolding reached-part area-a area-b
 reached-is true w v n m = take-padded w n
 reached-is false w v n m = take-padded w m
 
-module _ (t : Tables) (plan : List ℕ) (m l : ℕ) (a b : List ℕ) (ok : unfold-refusal t plan (capacity a b) ≡ none) where
-  pub c : ℕ
-  c = capacity a b
+-- an unfolding is refused nothing exactly where the plan is accepted and the areas can hold it
+pub unfold-accepts : (t : Tables) (plan : List ℕ) (c : ℕ) → (unfold-refusal t plan c ≡ none) ↔ (AcceptedPlan t plan × (length plan ≤ c))
+unfolding unfold-refusal
+unfold-accepts t plan c = (
+  λ e.
+      let h = none-of-both (plan-refusal t plan) _ .0 e in
+      (accepted-plan t plan .0 (h .0), go (ltb c (length plan)) _ refl (h .1)),
+  λ h. none-of-both (plan-refusal t plan) _ .1 (accepted-plan t plan .1 (h .0), rw (le-ltb c (length plan) (h .1))),
+)
+  where
+    go : (x : Bool) (f : Refusal) → ltb c (length plan) ≡ x → cond x (some f) none ≡ none → length plan ≤ c
+    go true f q e = never (sym e)
+    go false f q e = ltb-false c (length plan) q
 
-  pub R : Run
-  unfolding c
+-- a run from an accepted plan, within bounds that areas can have
+module _ (t : Tables) (plan : List ℕ) (m l c : ℕ) (p : AcceptedPlan t plan) (held : length plan ≤ c) (few : c ≤ most-words) where
+  abbrev R : Run
   R = run-of t plan m l c
 
+  F : Followed t c m l 0 plan [] [] R
+  F = run-followed t plan m l c
+
   plan-ok : plan-refusal t plan ≡ none
-  unfolding unfold-refusal
-  plan-ok = none-of-both (plan-refusal t plan) _ .0 ok .0
+  plan-ok = accepted-plan t plan .1 p
 
-  is-lawful : Lawful t
-  unfolding plan-refusal
-  is-lawful = accepted-iff-lawful t .0 (none-of-both (table-refusal t) _ .0 plan-ok .0)
-
-  words-ok : words-refusal (actions t) plan ≡ none
-  unfolding plan-refusal
-  words-ok = none-of-both (table-refusal t) _ .0 plan-ok .1
-
-  plan-fits : length plan ≤ c
-  unfolding unfold-refusal c
-  plan-fits = go (ltb (capacity a b) (length plan)) _ refl (none-of-both (plan-refusal t plan) _ .0 ok .1)
-    where
-      go : (x : Bool) (f : Refusal) → ltb (capacity a b) (length plan) ≡ x → cond x (some f) none ≡ none → length plan ≤ capacity a b
-      go true f q e = never (sym e)
-      go false f q e = ltb-false (capacity a b) (length plan) q
-
-  F : Followed t c l 0 plan [] [] R
-  unfolding R run-of c
-  F = followed t (capacity a b) m l 0 plan [] [] plan-fits
-
-  short : c ≤ 16384
-  unfolding c capacity
-  short = omega arith
-
-  reached-all : AlikePlans t plan (R .plan) × (length (R .plan) ≤ 16384 → words-refusal (actions t) (R .plan) ≡ none)
-  reached-all = chain-alike t is-lawful words-ok (F .chain)
+  reached-all : AlikePlans t plan (R .plan) × (length (R .plan) ≤ most-words → words-refusal (actions t) (R .plan) ≡ none)
+  reached-all = chain-alike t (p .lawful) (plan-accepted-iff t plan .0 plan-ok .1) (F .chain)
 
   reached-ok : words-refusal (actions t) (R .plan) ≡ none
-  reached-ok = reached-all .1 (omega (arith, F .fits, short))
+  reached-ok = reached-all .1 (omega (arith, F .fits held))
 
-  pub records-long : length (R .records) ≡ 3 * (R .steps)
-  records-long = omega (arith, F .counted, ap length (F .is-own))
+  reached-accepted : AcceptedPlan t (R .plan)
+  reached-accepted = accepted-plan t (R .plan) .0 (plan-accepted-iff t (R .plan) .1 (accepted-iff-lawful t .1 (p .lawful), reached-ok))
 
-  -- the same of the run as it is written out
-  pub run-records-long : length (run-of t plan m l (capacity a b) .records) ≡ 3 * (run-of t plan m l (capacity a b) .steps)
-  unfolding R c
-  run-records-long = records-long
+  -- the own rewriting is whole, and its replay in areas that hold as much accepts
+  own-accepted : (a b : List ℕ) → capacity a b ≡ c
+      → check-outcome t plan (R .plan) (bytes-of (R .moves)) a b .answer ≡ Accepted (R .steps) (length (R .plan))
+  unfolding check-outcome check-refusal rewriting-refusal replay-of
+  own-accepted a b h =
+      rw (h, plan-ok, reached-ok, le-ltb c (length plan) held, bytes-whole (R .moves), moves-bytes (R .moves), F .is-own, F .known 0, F .replays)
 
-  -- the own rewriting passes 16, and its replay in areas of the same lengths accepts
-  pub own-accepted : (a″ b″ : List ℕ) → length a″ ≡ length a → length b″ ≡ length b
-      → check-outcome t plan (R .plan) (R .records) a″ b″ .answer ≡ Accepted (R .steps) (length (R .plan))
-  unfolding check-outcome check-refusal replay-of capacity c
-  own-accepted a″ b″ h i =
-      let q : length (R .records) % 3 ≡ 0 = ap (λ (z : ℕ). z % 3) records-long ∙ mul-mod-right 3 (R .steps) in
-      rw (h, i, plan-ok, reached-ok, le-ltb _ (length plan) plan-fits, q, F .is-own, F .known 0, F .replays)
+  no-law : (x : AcceptedPlan t (R .plan)) → ((i k : ℕ) → i < length (R .plan) → 5 ≤ k → k ≤ highest-law → step t k i (R .plan) ≡ none) ↔ Basic (x .term)
+  no-law x = no-step-iff-basic t (p .lawful .well-formed .few-actions) (R .plan) (x .term) (accepted-reads-as t (R .plan) x)
 
-  pub finished-basic : (R .number ≡ 0) ↔ (basic-words? (actions t) (R .plan) ≡ true)
-  unfolding basic-words?
+  finished-basic : (R .number ≡ 0) ↔ BasicPlan t (R .plan)
   finished-basic =
-      let u = accepted-term (actions t) (is-lawful .well-formed .few-actions) (R .plan) reached-ok in
-      let n = no-step-iff-basic t (is-lawful .well-formed .few-actions) (R .plan) (u .0) (u .1) in
-      let d = basic?-iff (u .0) in (
-        λ e. rw (u .1) (d .1 (n .0 (none-fits t (R .plan) (F .finished e)))),
-        λ e. F .unfinished (fits-none t (R .plan) (n .1 (d .0 (rw (u .1) at e)))),
+      let e = ends-finished (run-ends t plan m l c) in (
+        λ q. record { plan = reached-accepted; basic = no-law reached-accepted .0 (none-fits t (R .plan) (e .0 q)) },
+        λ q. e .1 (fits-none t (R .plan) (no-law (q .plan) .1 (q .basic))),
       )
 
 -- what an answer reports
@@ -129,18 +112,36 @@ not-refused : {s z : ℕ} {A : Type 0} (f : Refusal) → Shown (Refused f) s z �
 not-refused f (shown-finished e) = let x : _≡_ {A = ℕ} 0 1 = cc in absurd (omega arith)
 not-refused f (shown-stopped k e) = let x : _≡_ {A = ℕ} 0 1 = cc in absurd (omega arith)
 
--- the steps and the size of a run's answer, and whether it says finished
+pub reports-run : (r : Run) → Reports (unfolded r) (r .steps) (length (r .plan))
+reports-run r = go (eqb (r .number) 0)
+  where
+    go : (x : Bool)
+        → Reports (cond x (Finished (r .steps) (length (r .plan))) (Stopped (r .number) (r .steps) (length (r .plan)))) (r .steps) (length (r .plan))
+    go true = finished
+    go false = stopped
+
+-- the steps and the size of a run's answer, and whether it says finished or stopped
 record Told (r : Run) (s z : ℕ) : Type 0 where
   steps-told : s ≡ r .steps
   size-told : z ≡ length (r .plan)
   finished-told : (unfolded r ≡ Finished s z) ↔ (r .number ≡ 0)
+  stopped-told : (k : ℕ) → unfolded r ≡ Stopped k s z → (r .number ≡ k) × (r .number ≡ 0 → ⊥)
 
 told : (r : Run) (s z : ℕ) → Shown (unfolded r) s z → Told r s z
 told r s z h = go (eqb (r .number) 0) refl h
   where
-    go : (x : Bool) → eqb (r .number) 0 ≡ x → Shown (cond x (Finished (r .steps) (length (r .plan))) (Stopped (r .number) (r .steps) (length (r .plan)))) s z → Told r s z
+    go : (x : Bool) → eqb (r .number) 0 ≡ x
+        → Shown (cond x (Finished (r .steps) (length (r .plan))) (Stopped (r .number) (r .steps) (length (r .plan)))) s z → Told r s z
     go true q (shown-finished e) =
-        record { steps-told = cc; size-told = cc; finished-told = (λ i. eqb-true (r .number) 0 q, λ i. rw q e) }
+        record {
+          steps-told = cc;
+          size-told = cc;
+          finished-told = (λ i. eqb-true (r .number) 0 q, λ i. rw q e);
+          stopped-told = λ k i. never-stopped k (rw q at i);
+        }
+      where
+        never-stopped : {A : Type 0} (k : ℕ) → Finished (r .steps) (length (r .plan)) ≡ Stopped k s z → A
+        never-stopped k i = let x : _≡_ {A = ℕ} 0 1 = cc in absurd (omega arith)
     go true q (shown-stopped k e) = let x : _≡_ {A = ℕ} 0 1 = cc in absurd (omega arith)
     go false q (shown-finished e) = let x : _≡_ {A = ℕ} 0 1 = cc in absurd (omega arith)
     go false q (shown-stopped k e) =
@@ -148,61 +149,86 @@ told r s z h = go (eqb (r .number) 0) refl h
           steps-told = cc;
           size-told = cc;
           finished-told = (λ i. absurd (never-finished (rw q at i)), λ i. absurd (eqb-false (r .number) 0 q i));
+          stopped-told = λ j i. (same-number j (rw q at i), eqb-false (r .number) 0 q);
         }
       where
         never-finished : Stopped (r .number) (r .steps) (length (r .plan)) ≡ Finished s z → ⊥
         never-finished i = let x : _≡_ {A = ℕ} 0 1 = cc in omega arith
+
+        same-number : (j : ℕ) → Stopped (r .number) (r .steps) (length (r .plan)) ≡ Stopped j s z → r .number ≡ j
+        same-number j i = cc
 
 -- what an answer reports is read off the areas and the list
 reached-told : (r : Run) (s z n k : ℕ) → Told r s z
     → reached-part (even? s) z (area-a (even? (r .steps)) (r .plan) (r .before) n) (area-b (even? (r .steps)) (r .plan) (r .before) k) ≡ r .plan
 reached-told r s z n k h = rw (h .steps-told, h .size-told) (reached-is (even? (r .steps)) (r .plan) (r .before) n k)
 
-own-told : (r : Run) (s z n : ℕ) → Told r s z → length (r .records) ≡ 3 * (r .steps) → own-rewriting s (padded (r .records) n) ≡ r .records
+own-told : (r : Run) (s z n : ℕ) → Told r s z → length (bytes-of (r .moves)) ≡ 3 * (r .steps)
+    → own-rewriting s (padded (bytes-of (r .moves)) n) ≡ bytes-of (r .moves)
 unfolding own-rewriting
-own-told r s z n h l = rw (h .steps-told, ← l) (take-padded (r .records) n)
+own-told r s z n h l = rw (h .steps-told, ← l) (take-padded (bytes-of (r .moves)) n)
 
 module _ (t : Tables) (plan : List ℕ) (m : ℕ) (list a b : List ℕ) where
-  ends : Run
-  ends = run-of t plan m (length list) (capacity a b)
+  abbrev c : ℕ
+  c = capacity a b
 
-  settled-claims : unfold-refusal t plan (capacity a b) ≡ none
-      → UnfoldClaims t plan list a b (settled ends list a b .answer) (settled ends list a b .list) (settled ends list a b .a) (settled ends list a b .b)
-  unfolding R c ends
-  settled-claims ok =
+  few-words : c ≤ most-words
+  unfolding capacity
+  few-words = omega arith
+
+  same-capacity : (a″ b″ : List ℕ) → length a″ ≡ length a → length b″ ≡ length b → capacity a″ b″ ≡ c
+  unfolding capacity
+  same-capacity a″ b″ h i = rw (h, i)
+
+  ends : Run
+  ends = run-of t plan m (length list) c
+
+  abbrev Claimed : Option Refusal → Type 0
+  Claimed o = UnfoldClaims (record { tables = t; plan = plan; allowance = m; list = list; a = a; b = b }) (unless-refused o ends list a b)
+
+  settled-claims : AcceptedPlan t plan → length plan ≤ c → Claimed none
+  unfolding ends
+  settled-claims p held =
+      let l = run-records-long t plan m (length list) c in
       record {
+        answered = (λ h. (ends .steps, length (ends .plan), reports-run ends), λ h. (p, held));
         recorded = λ s z h.
             let o = told ends s z (shown h) in
-            let l = records-long t plan m (length list) a b ok in
             rw (own-told ends s z (length list) o l) (l ∙ ap (λ (x : ℕ). 3 * x) (sym (o .steps-told)), refl);
         own-rewriting-accepted = λ s z h a″ b″ i j.
             let o = told ends s z (shown h) in
-            rw (reached-told ends s z (length a) (length b) o, own-told ends s z (length list) o (records-long t plan m (length list) a b ok))
-            (own-accepted t plan m (length list) a b ok a″ b″ i j ∙ (ap (λ (x : ℕ). Accepted x (length (ends .plan))) (sym (o .steps-told)) ∙ ap (λ (x : ℕ). Accepted s x) (sym (o .size-told))));
+            rw (reached-told ends s z (length a) (length b) o, own-told ends s z (length list) o l, o .steps-told, o .size-told)
+            (own-accepted t plan m (length list) c p held few-words a″ b″ (same-capacity a″ b″ i j));
         reached-alike = λ s z h.
-            rw (reached-told ends s z (length a) (length b) (told ends s z (shown h))) (reached-all t plan m (length list) a b ok .0);
+            rw (reached-told ends s z (length a) (length b) (told ends s z (shown h)))
+            (reached-all t plan m (length list) c p held few-words .0);
         finished-iff-basic = λ s z h.
             let o = told ends s z (shown h) in
-            let f = finished-basic t plan m (length list) a b ok in
+            let f = finished-basic t plan m (length list) c p held few-words in
             rw (reached-told ends s z (length a) (length b) o) (λ e. f .0 (o .finished-told .0 e), λ e. o .finished-told .1 (f .1 e));
+        stopped-rightly = λ k s z h.
+            let o = told ends s z (shown-stopped k h) in
+            let q = o .stopped-told k h in
+            rw (reached-told ends s z (length a) (length b) o, o .steps-told, ← q .0)
+            (ends-stopped (run-ends t plan m (length list) c) (q .1));
       }
 
-  pub unfold-claims : UnfoldClaims t plan list a b (unfold-outcome t plan m list a b .answer) (unfold-outcome t plan m list a b .list)
-      (unfold-outcome t plan m list a b .a) (unfold-outcome t plan m list a b .b)
+  unfold-claims-by : (o : Option Refusal) → unfold-refusal t plan c ≡ o → Claimed o
+  unfold-claims-by none e = let h = unfold-accepts t plan c .0 e in settled-claims (h .0) (h .1)
+  unfold-claims-by (some f) e =
+      record {
+        answered = (λ h. never (sym (unfold-accepts t plan c .1 h) ∙ e), λ h. not-refused f (shown (h .2)));
+        recorded = λ s z h. not-refused f (shown h);
+        own-rewriting-accepted = λ s z h. not-refused f (shown h);
+        reached-alike = λ s z h. not-refused f (shown h);
+        finished-iff-basic = λ s z h. not-refused f (shown h);
+        stopped-rightly = λ k s z h. not-refused f (shown-stopped k h);
+      }
+
+  pub unfold-claims :
+      UnfoldClaims (record { tables = t; plan = plan; allowance = m; list = list; a = a; b = b }) (unfold-outcome t plan m list a b)
   unfolding unfold-outcome ends
-  unfold-claims = go (unfold-refusal t plan (capacity a b)) refl
-    where
-      go : (o : Option Refusal) → unfold-refusal t plan (capacity a b) ≡ o
-          → UnfoldClaims t plan list a b (unfolding-of.unless-refused o ends list a b .answer) (unfolding-of.unless-refused o ends list a b .list)
-          (unfolding-of.unless-refused o ends list a b .a) (unfolding-of.unless-refused o ends list a b .b)
-      go none e = settled-claims e
-      go (some f) e =
-          record {
-            recorded = λ s z h. not-refused f (shown h);
-            own-rewriting-accepted = λ s z h. not-refused f (shown h);
-            reached-alike = λ s z h. not-refused f (shown h);
-            finished-iff-basic = λ s z h. not-refused f (shown h);
-          }
+  unfold-claims = unfold-claims-by (unfold-refusal t plan (capacity a b)) refl
 
 pub check-claims : (t : Tables) (start claimed rewriting a b : List ℕ)
     → CheckClaims t start claimed (check-outcome t start claimed rewriting a b .answer)

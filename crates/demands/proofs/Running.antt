@@ -1,54 +1,59 @@
--- A run of the unfolding: its records replay to the plan reached, within the same bounds, and it is finished exactly when no law fits.
-use Prim.Native.Nat.{ℕ, suc, zero, _≤_, _+_, _-_, _*_, _/_, _%_}
+-- A run of the unfolding: its steps replay to the plan reached, within the same bounds, and it ends as document 01 says.
+use Prim.Native.Nat.{ℕ, suc, zero, _≤_, _+_, _-_, _*_}
 use native.Mathlib.Omega.{arith}
-use native.Mathlib.Nat.{div-add-mod'}
+use native.Mathlib.Numerals.{unary-clauses}
 use mathlib.Core.Path.{_≡_, refl, sym, _∙_, ap}
 use mathlib.Core.Bool.{Bool, true, false}
 use mathlib.Core.List.{List, [], _∷_, _++_, append-assoc, append-nil}
+use mathlib.Core.Logic.{_↔_}
 use mathlib.Core.Option.{Option, none, some}
 use lib.ListN.{length}
 use lib.Dec.{ltb}
-use borrow.Author.Tests.{ltb-false, le-ltb, le-leb}
+use borrow.Author.Tests.{ltb-true, ltb-false, le-ltb, le-leb}
 use Rattle.tables.specs.Tables.{Tables}
 use Rattle.plans.proofs.Options.{never}
 use Rattle.laws.specs.Step.{Rewrites, no-step, step-then}
-use Rattle.steps.specs.Records.{record-of, moves-of}
-use Rattle.steps.specs.Choice.{Found, next-step}
-use Rattle.unfolding.specs.Unfolding.{Run, run, on-found}
-use Rattle.unfolding.specs.Unfolding as unfolding-of
-use Rattle.checking.specs.Checking.{stop-if, replay, unknown-law}
-use Rattle.steps.proofs.Choosing.{Taken, next-taken}
+use Rattle.rewritings.specs.Records.{Move, bytes-of}
+use Rattle.rewritings.specs.Choice.{Found, next-step}
+use Rattle.rewritings.proofs.Bytes.{bytes-long}
+use Rattle.rewritings.proofs.Choosing.{Taken, next-taken}
+use Rattle.unfolding.specs.Unfolding.{Run, move, run, run-of, on-found, stop-if}
+use Rattle.checking.specs.Checking.{replay, unknown-law}
 use Rattle.checking.proofs.Replaying.{same-itself}
+use Rattle.demands.specs.Claims.{Stops, allowance-spent, list-full, next-too-long}
 
--- What holds of a run R from plan w, with v before it, k steps made, r recorded and room bytes left in the list.
-pub record Followed (t : Tables) (c room k : ℕ) (w v r : List ℕ) (R : Run) : Type 0 where
-  -- the records of its own steps
-  pub own : List ℕ
-  pub is-own : R .records ≡ r ++ own
+-- how a run ends: no law fits, or it stops where one does
+pub data Ends (t : Tables) (allowance room c : ℕ) (plan : List ℕ) (steps : ℕ) : ℕ → Type 0 where
+  no-law-fits : next-step t plan ≡ none → Ends t allowance room c plan steps 0
+  stops : {number : ℕ} → Stops t allowance room c plan steps number → Ends t allowance room c plan steps number
+
+-- What holds of a run R from plan w, with v before it, k steps made, which are r, m more allowed and room bytes left in the list.
+pub record Followed (t : Tables) (c m room k : ℕ) (w v : List ℕ) (r : List Move) (R : Run) : Type 0 where
+  -- its own steps
+  pub own : List Move
+  pub is-own : R .moves ≡ r ++ own
   -- the replay of those, to the plan reached, accepts
-  pub replays : replay t c (R .plan) (moves-of own) k w v ≡ record { number = 0; steps = R .steps; plan = R .plan; before = R .before }
+  pub replays : replay t c (R .plan) own k w v ≡ record { number = 0; steps = R .steps; plan = R .plan; before = R .before }
   -- all their laws are known
-  pub known : (i : ℕ) → unknown-law i (moves-of own) ≡ none
-  -- three bytes to a step, and the list holds them
-  pub counted : length own + 3 * k ≡ 3 * (R .steps)
-  pub held : length own ≤ room
+  pub known : (i : ℕ) → unknown-law i own ≡ none
+  -- they are as many as are counted, and the list holds them
+  pub counted : k + length own ≡ R .steps
+  pub held : 3 * length own ≤ room
   -- the plan reached is not too long, and is reached by steps
-  pub fits : length (R .plan) ≤ c
+  pub fits : length w ≤ c → length (R .plan) ≤ c
   pub chain : Rewrites t w (R .plan)
-  -- finished exactly when no law fits
-  pub finished : R .number ≡ 0 → next-step t (R .plan) ≡ none
-  pub unfinished : next-step t (R .plan) ≡ none → R .number ≡ 0
-
--- a place's two bytes
-pub place-again : (p : ℕ) → p % 256 + 256 * (p / 256) ≡ p
-place-again p = omega (arith, div-add-mod' p 256)
+  -- with all steps made and left, and all bytes filled and left
+  pub ends : Ends t (m + k) (room + 3 * k) c (R .plan) (R .steps) (R .number)
 
 module _ (t : Tables) (c : ℕ) where
+  abbrev Stop : ℕ → ℕ → List ℕ → List ℕ → List Move → Run
+  Stop number k w v r = record { number = number; steps = k; plan = w; before = v; moves = r }
+
   -- a run that ends at once
-  ended : (number room k : ℕ) (w v r : List ℕ) → length w ≤ c → (number ≡ 0 → next-step t w ≡ none) → (next-step t w ≡ none → number ≡ 0)
-      → Followed t c room k w v r (record { number = number; steps = k; plan = w; before = v; records = r })
-  unfolding replay moves-of unknown-law
-  ended number room k w v r h f g =
+  ended : (number m room k : ℕ) (w v : List ℕ) (r : List Move) → Ends t (m + k) (room + 3 * k) c w k number
+      → Followed t c m room k w v r (Stop number k w v r)
+  unfolding replay unknown-law
+  ended number m room k w v r e =
       record {
         own = [];
         is-own = sym (append-nil r);
@@ -56,83 +61,113 @@ module _ (t : Tables) (c : ℕ) where
         known = λ i. refl;
         counted = omega arith;
         held = omega arith;
-        fits = h;
+        fits = λ h. h;
         chain = no-step;
-        finished = f;
-        unfinished = g;
+        ends = e;
       }
 
   -- one step, and then a run
-  module _ (room k : ℕ) (w v r : List ℕ) (s : Found) (R : Run) (e : next-step t w ≡ some s) (roomy : 3 ≤ room) (short : length (s .plan) ≤ c)
-      (F : Followed t c (room - 3) (suc k) (s .plan) w (r ++ record-of (s .law) (s .place)) R) where
-    own-all : List ℕ
-    own-all = record-of (s .law) (s .place) ++ F .own
-
-    move : moves-of own-all ≡ record { law = s .law; place = s .place } ∷ moves-of (F .own)
-    unfolding own-all record-of moves-of
-    move = ap (λ (p : ℕ). record { law = s .law; place = p } ∷ moves-of (F .own)) (place-again (s .place))
-
+  module _ (m room k : ℕ) (w v : List ℕ) (r : List Move) (s : Found) (R : Run) (e : next-step t w ≡ some s) (roomy : 3 ≤ room)
+      (short : length (s .plan) ≤ c) (F : Followed t c m (room - 3) (suc k) (s .plan) w (r ++ (move s ∷ [])) R) where
     taken : Taken t w s
     taken = next-taken t w s e
 
-    replays-all : replay t c (R .plan) (record { law = s .law; place = s .place } ∷ moves-of (F .own)) k w v
-        ≡ record { number = 0; steps = R .steps; plan = R .plan; before = R .before }
+    replays-all : replay t c (R .plan) (move s ∷ F .own) k w v ≡ record { number = 0; steps = R .steps; plan = R .plan; before = R .before }
     unfolding replay
     replays-all = rw (taken .fits, le-ltb c (length (s .plan)) short) (F .replays)
 
-    known-all : (i : ℕ) → unknown-law i (record { law = s .law; place = s .place } ∷ moves-of (F .own)) ≡ none
+    known-all : (i : ℕ) → unknown-law i (move s ∷ F .own) ≡ none
     unfolding unknown-law
     known-all i = rw (le-leb 1 (s .law) (omega (arith, taken .low)), le-leb (s .law) 32 (taken .high)) (F .known (suc i))
 
-    longer : Followed t c room k w v r R
-    unfolding own-all record-of
+    ends-all : Ends t (suc m + k) (room + 3 * k) c (R .plan) (R .steps) (R .number)
+    ends-all =
+        let p : m + suc k ≡ suc m + k = omega arith in
+        let q : (room - 3) + 3 * suc k ≡ room + 3 * k = omega arith in rw (← p, ← q) (F .ends)
+
+    longer : Followed t c (suc m) room k w v r R
     longer =
         record {
-          own = own-all;
-          is-own = F .is-own ∙ append-assoc r (record-of (s .law) (s .place)) (F .own);
-          replays = rw move replays-all;
-          known = λ i. rw move (known-all i);
+          own = move s ∷ F .own;
+          is-own = F .is-own ∙ append-assoc r (move s ∷ []) (F .own);
+          replays = replays-all;
+          known = known-all;
           counted = omega (arith, F .counted);
           held = omega (arith, F .held);
-          fits = F .fits;
+          fits = λ h. F .fits short;
           chain = step-then (s .law) (s .place) (taken .fits) (F .chain);
-          finished = F .finished;
-          unfinished = F .unfinished;
+          ends = ends-all;
         }
 
-  abbrev Stop : ℕ → ℕ → List ℕ → List ℕ → List ℕ → Run
-  Stop number k w v r = record { number = number; steps = k; plan = w; before = v; records = r }
-
-  not-none : {s : Found} (w : List ℕ) → next-step t w ≡ some s → {number : ℕ} → next-step t w ≡ none → number ≡ 0
-  not-none w e h = never (sym h ∙ e)
-
-  pub followed : (m room k : ℕ) (w v r : List ℕ) → length w ≤ c → Followed t c room k w v r (run t c m room k w v r)
+  pub followed : (m room k : ℕ) (w v : List ℕ) (r : List Move) → Followed t c m room k w v r (run t c m room k w v r)
   unfolding run
-  followed zero room k w v r h = go (next-step t w) refl
+  followed zero room k w v r = go (next-step t w) refl
     where
-      go : (o : Option Found) → next-step t w ≡ o → Followed t c room k w v r (on-found o (Stop 0 k w v r) (λ s. Stop 34 k w v r))
-      go none e = ended 0 room k w v r h (λ z. e) (λ z. refl)
-      go (some s) e = ended 34 room k w v r h (λ z. absurd (omega arith)) (λ z. not-none w e z)
-  followed (suc m) room k w v r h = go (next-step t w) refl (λ s l. followed m (room - 3) (suc k) (s .plan) w (r ++ record-of (s .law) (s .place)) l)
+      go : (o : Option Found) → next-step t w ≡ o → Followed t c 0 room k w v r (on-found o (Stop 0 k w v r) (λ s. Stop 34 k w v r))
+      go none e = ended 0 0 room k w v r (no-law-fits e)
+      go (some s) e = ended 34 0 room k w v r (stops (allowance-spent s e (omega arith)))
+  followed (suc m) room k w v r = go (next-step t w) refl (λ s. followed m (room - 3) (suc k) (s .plan) w (r ++ (move s ∷ [])))
     where
       go : (o : Option Found) → next-step t w ≡ o
-          → ((s : Found) → length (s .plan) ≤ c → Followed t c (room - 3) (suc k) (s .plan) w (r ++ record-of (s .law) (s .place)) (run t c m (room - 3) (suc k) (s .plan) w (r ++ record-of (s .law) (s .place))))
-          → Followed t c room k w v r
+          → ((s : Found)
+          → Followed t c m (room - 3) (suc k) (s .plan) w (r ++ (move s ∷ [])) (run t c m (room - 3) (suc k) (s .plan) w (r ++ (move s ∷ []))))
+          → Followed t c (suc m) room k w v r
           (on-found o (Stop 0 k w v r)
-          (λ s. unfolding-of.stop-if (ltb room 3) (Stop 35 k w v r)
-          (λ u. unfolding-of.stop-if (ltb c (length (s .plan))) (Stop 36 k w v r)
-          (λ u′. run t c m (room - 3) (suc k) (s .plan) w (r ++ record-of (s .law) (s .place))))))
-      go none e f = ended 0 room k w v r h (λ z. e) (λ z. refl)
+          (λ s. stop-if (ltb room 3) (Stop 35 k w v r)
+          (λ u. stop-if (ltb c (length (s .plan))) (Stop 36 k w v r)
+          (λ u′. run t c m (room - 3) (suc k) (s .plan) w (r ++ (move s ∷ []))))))
+      go none e f = ended 0 (suc m) room k w v r (no-law-fits e)
       go (some s) e f = room-left (ltb room 3) refl
         where
-          words-left : (b : Bool) → ltb c (length (s .plan)) ≡ b → 3 ≤ room → Followed t c room k w v r
-              (unfolding-of.stop-if b (Stop 36 k w v r) (λ u′. run t c m (room - 3) (suc k) (s .plan) w (r ++ record-of (s .law) (s .place))))
-          words-left true q l = ended 36 room k w v r h (λ z. absurd (omega arith)) (λ z. not-none w e z)
-          words-left false q l = longer room k w v r s _ e l (ltb-false c (length (s .plan)) q) (f s (ltb-false c (length (s .plan)) q))
+          words-left : (b : Bool) → ltb c (length (s .plan)) ≡ b → 3 ≤ room → Followed t c (suc m) room k w v r
+              (stop-if b (Stop 36 k w v r) (λ u′. run t c m (room - 3) (suc k) (s .plan) w (r ++ (move s ∷ []))))
+          words-left true q l =
+              ended 36 (suc m) room k w v r (stops (next-too-long s e (omega arith) (omega arith) (ltb-true c (length (s .plan)) q)))
+          words-left false q l = longer m room k w v r s _ e l (ltb-false c (length (s .plan)) q) (f s)
 
-          room-left : (b : Bool) → ltb room 3 ≡ b → Followed t c room k w v r
-              (unfolding-of.stop-if b (Stop 35 k w v r)
-              (λ u. unfolding-of.stop-if (ltb c (length (s .plan))) (Stop 36 k w v r)
-              (λ u′. run t c m (room - 3) (suc k) (s .plan) w (r ++ record-of (s .law) (s .place)))))
-          room-left true q = ended 35 room k w v r h (λ z. absurd (omega arith)) (λ z. not-none w e z)
+          room-left : (b : Bool) → ltb room 3 ≡ b → Followed t c (suc m) room k w v r
+              (stop-if b (Stop 35 k w v r)
+              (λ u. stop-if (ltb c (length (s .plan))) (Stop 36 k w v r)
+              (λ u′. run t c m (room - 3) (suc k) (s .plan) w (r ++ (move s ∷ [])))))
+          room-left true q =
+              let l = ltb-true room 3 q in ended 35 (suc m) room k w v r (stops (list-full s e (omega arith) (omega arith)))
           room-left false q = words-left (ltb c (length (s .plan))) refl (ltb-false room 3 q)
+
+-- a stop is not a finish, and a law still fits there
+pub stop-number : {t : Tables} {m l c k n : ℕ} {w : List ℕ} → Stops t m l c w k n → (n ≡ 0) → ⊥
+stop-number (allowance-spent s e h) q = omega arith
+stop-number (list-full s e h i) q = omega arith
+stop-number (next-too-long s e h i j) q = omega arith
+
+pub stop-fits : {t : Tables} {m l c k n : ℕ} {w : List ℕ} → Stops t m l c w k n → (s : Found) × (next-step t w ≡ some s)
+stop-fits (allowance-spent s e h) = (s, e)
+stop-fits (list-full s e h i) = (s, e)
+stop-fits (next-too-long s e h i j) = (s, e)
+
+-- finished exactly where no law fits
+pub ends-finished : {t : Tables} {m l c k n : ℕ} {w : List ℕ} → Ends t m l c w k n → (n ≡ 0) ↔ (next-step t w ≡ none)
+ends-finished (no-law-fits e) = (λ q. e, λ q. refl)
+ends-finished (stops s) = (λ q. absurd (stop-number s q), λ q. never (sym q ∙ stop-fits s .1))
+
+-- and else it stops
+pub ends-stopped : {t : Tables} {m l c k n : ℕ} {w : List ℕ} → Ends t m l c w k n → (n ≡ 0 → ⊥) → Stops t m l c w k n
+ends-stopped (no-law-fits e) f = absurd (f refl)
+ends-stopped (stops s) f = s
+
+-- of the run that an unfolding makes: its steps are as many as are counted, three bytes to each, the list holds them, and it ends so
+module _ (t : Tables) (plan : List ℕ) (m l c : ℕ) where
+  pub run-followed : Followed t c m l 0 plan [] [] (run-of t plan m l c)
+  unfolding run-of
+  run-followed = followed t c m l 0 plan [] []
+
+  pub run-counted : length (run-of t plan m l c .moves) ≡ run-of t plan m l c .steps
+  run-counted = rw (run-followed .is-own) (omega (arith, run-followed .counted))
+
+  pub run-records-long : length (bytes-of (run-of t plan m l c .moves)) ≡ 3 * (run-of t plan m l c .steps)
+  run-records-long = bytes-long (run-of t plan m l c .moves) ∙ ap (λ (k : ℕ). 3 * k) run-counted
+
+  pub run-held : 3 * (run-of t plan m l c .steps) ≤ l
+  run-held = omega (arith, run-followed .counted, run-followed .held)
+
+  pub run-ends : Ends t m l c (run-of t plan m l c .plan) (run-of t plan m l c .steps) (run-of t plan m l c .number)
+  run-ends = simp unary-clauses at (run-followed .ends)

@@ -1,77 +1,113 @@
--- A check of one record makes its step exactly when the law fits and the next plan is not too long.
+-- Demand 2: a check of one record makes its step exactly when the law fits and the next plan is not too long.
 use Prim.Native.Nat.{ℕ, _≤_, _<_}
-use mathlib.Core.Path.{_≡_, refl, ap, subst}
-use mathlib.Core.Bool.{Bool, true, false, cond}
+use mathlib.Core.Path.{_≡_, refl, sym, _∙_, ap}
+use mathlib.Core.Bool.{Bool, true, false, cond, false≢true}
 use mathlib.Core.List.{List, [], _∷_}
-use mathlib.Core.Option.{Option, none, some}
+use mathlib.Core.Option.{none, some}
 use lib.ListN.{length}
-use lib.Dec.{eqb, ltb}
-use borrow.Author.Tests.{le-ltb, lt-ltb}
-use Rattle.tables.specs.Tables.{Tables}
+use borrow.Author.Tests.{le-ltb, lt-ltb, le-leb}
+use Rattle.areas.specs.Area.{padded}
+use Rattle.areas.specs.Reached.{capacity, even?, area-a, area-b}
+use Rattle.tables.specs.Tables.{Tables, actions}
+use Rattle.plans.specs.Judging.{words-refusal}
+use Rattle.plans.proofs.Accepted.{plan-accepted-iff, accepted-plan}
 use Rattle.laws.specs.Laws.{same-bytes}
 use Rattle.laws.specs.Step.{step}
-use Rattle.buffer.specs.Areas.{capacity, even?, area-a, area-b}
-use Rattle.steps.specs.Records.{record-of, moves-of}
-use Rattle.checking.specs.declared.Checked.the-variants.{Accepted, TurnedBack}
-use Rattle.checking.specs.Checking.{Replay, on-step, stop-if, replay, replay-of, check-refusal, check-outcome, CheckOutcome, checked}
-use Rattle.demands.specs.Claims.{Makes, accepted, turned-back, StepClaims}
-use Rattle.demands.proofs.Running.{place-again}
+use Rattle.laws.proofs.Sound.{same-list}
+use Rattle.rewritings.specs.Records.{record-of, moves-of, whole?}
+use Rattle.rewritings.proofs.Bytes.{moves-record}
+use Rattle.checking.specs.Checking.{Replay, replay, replay-of, unknown-law, rewriting-refusal, check-refusal, check-outcome, CheckOutcome, checked, settled}
+use Rattle.checking.proofs.Replaying.{same-itself}
+use Rattle.demands.specs.Claims.{CheckGiven, SingleStep, Makes, as-claimed, differs, unmade, StepClaims}
 
-makes : (r : Replay) → Makes (checked r) (r .steps)
-makes r = go (eqb (r .number) 0)
+one-move : (k p : ℕ) → moves-of (record-of k p) ≡ record { law = k; place = p } ∷ []
+unfolding moves-of record-of
+one-move k p = moves-record k p []
+
+one-whole : (k p : ℕ) → whole? (record-of k p) ≡ true
+unfolding whole? record-of
+one-whole k p = refl
+
+-- the answer to one step made
+makes : (w claimed start : List ℕ) → Makes w claimed (checked (record { number = cond (same-bytes w claimed) 0 33; steps = 1; plan = w; before = start }))
+makes w claimed start = go (same-bytes w claimed) refl
   where
-    go : (b : Bool) → Makes (cond b (Accepted (r .steps) (length (r .plan))) (TurnedBack (r .number) (r .steps) (length (r .plan)))) (r .steps)
-    go true = accepted
-    go false = turned-back
+    go : (b : Bool) → same-bytes w claimed ≡ b → Makes w claimed (checked (record { number = cond b 0 33; steps = 1; plan = w; before = start }))
+    go true q = as-claimed (same-list w claimed q)
+    go false q = differs (λ e. false≢true (sym q ∙ rw (← e) (same-itself w)))
 
-module _ (t : Tables) (start claimed : List ℕ) (c k p : ℕ) where
-  one-move : moves-of (record-of k p) ≡ record { law = k; place = p } ∷ []
-  unfolding moves-of record-of
-  one-move = ap (λ (q : ℕ). record { law = k; place = q } ∷ []) (place-again p)
+-- everything that the check of a record answers and leaves
+unfoldable outcome-of : CheckGiven → CheckOutcome
+outcome-of g = check-outcome (g .tables) (g .start) (g .claimed) (g .rewriting) (g .a) (g .b)
 
-  one-made : (w : List ℕ) → step t k p start ≡ some w → length w ≤ c
-      → replay-of t start claimed (record-of k p) c ≡ record { number = cond (same-bytes w claimed) 0 33; steps = 1; plan = w; before = start }
-  unfolding replay-of replay
-  one-made w e h = rw (one-move, e, le-ltb c (length w) h)
+module _ (g : CheckGiven) (k p : ℕ) (h : SingleStep g k p) where
+  abbrev c : ℕ
+  c = capacity (g .a) (g .b)
 
-  abbrev Stays : Replay → Type 0
-  Stays r = (r .steps ≡ 0) × (r .plan ≡ start) × (r .before ≡ [])
+  claimed-ok : words-refusal (actions (g .tables)) (g .claimed) ≡ none
+  claimed-ok = plan-accepted-iff (g .tables) (g .claimed) .0 (accepted-plan (g .tables) (g .claimed) .1 (h .accepted-claimed)) .1
 
-  one-kept : ((w : List ℕ) → step t k p start ≡ some w → c < length w) → Stays (replay-of t start claimed (record-of k p) c)
-  unfolding replay-of replay
-  one-kept f = rw one-move (go (step t k p start) refl)
-    where
-      go : (o : Option (List ℕ)) → step t k p start ≡ o
-          → Stays (on-step o (record { number = 31; steps = 0; plan = start; before = [] })
-          (λ next. stop-if (ltb c (length next)) (record { number = 32; steps = 0; plan = start; before = [] })
-          (λ u. record { number = cond (same-bytes next claimed) 0 33; steps = 1; plan = next; before = start })))
-      go none e = (refl, refl, refl)
-      go (some w) e = rw (lt-ltb c (length w) (f w e)) (refl, refl, refl)
+  -- nothing handed in is turned back
+  no-refusal : check-refusal (g .tables) (g .start) (g .claimed) (g .rewriting) c ≡ none
+  unfolding check-refusal rewriting-refusal unknown-law
+  no-refusal =
+      rw (
+        accepted-plan (g .tables) (g .start) .1 (h .accepted-start),
+        claimed-ok,
+        le-ltb c (length (g .start)) (h .held),
+        h .one-record,
+        one-whole k p,
+        one-move k p,
+        le-leb 1 k (h .first-law),
+        le-leb k 32 (h .last-law),
+      )
 
--- what a replay of s steps from v to w leaves
-left-by : (r : Replay) (s n m : ℕ) (w v : List ℕ) → (r .steps ≡ s) × (r .plan ≡ w) × (r .before ≡ v)
-    → Makes (checked r) s × (area-a (even? (r .steps)) (r .plan) (r .before) n ≡ area-a (even? s) w v n)
-    × (area-b (even? (r .steps)) (r .plan) (r .before) m ≡ area-b (even? s) w v m)
-left-by r s n m w v h = (subst (Makes (checked r)) (h .0) (makes r), rw (h .0, h .1, h .2), rw (h .0, h .1, h .2))
+  -- so the outcome is that of the replay of one step
+  abbrev replayed : Replay
+  replayed = replay (g .tables) c (g .claimed) (record { law = k; place = p } ∷ []) 0 (g .start) []
 
--- where nothing handed in is turned back, the outcome is the replay's
-module _ (t : Tables) (start claimed rewriting a b : List ℕ) (s : ℕ) (w v : List ℕ) where
-  abbrev Leaves : CheckOutcome → Type 0
-  Leaves o = Makes (o .answer) s × (o .a ≡ area-a (even? s) w v (length a)) × (o .b ≡ area-b (even? s) w v (length b))
+  by-replay : outcome-of g ≡ settled replayed (g .a) (g .b)
+  unfolding outcome-of check-outcome replay-of
+  by-replay = rw (no-refusal, h .one-record, one-move k p)
 
-  outcome-by : check-refusal t start claimed rewriting (capacity a b) ≡ none
-      → (replay-of t start claimed rewriting (capacity a b) .steps ≡ s) × (replay-of t start claimed rewriting (capacity a b) .plan ≡ w)
-      × (replay-of t start claimed rewriting (capacity a b) .before ≡ v)
-      → Leaves (check-outcome t start claimed rewriting a b)
-  unfolding check-outcome
-  outcome-by ok h = rw ok (left-by (replay-of t start claimed rewriting (capacity a b)) s (length a) (length b) w v h)
+  made-so : (w : List ℕ) → step (g .tables) k p (g .start) ≡ some w → length w ≤ c
+      → replayed ≡ record { number = cond (same-bytes w (g .claimed)) 0 33; steps = 1; plan = w; before = g .start }
+  unfolding replay
+  made-so w e l = rw (e, le-ltb c (length w) l)
+
+  not-fitting-so : step (g .tables) k p (g .start) ≡ none → replayed ≡ record { number = 31; steps = 0; plan = g .start; before = [] }
+  unfolding replay
+  not-fitting-so e = rw e
+
+  too-long-so : (w : List ℕ) → step (g .tables) k p (g .start) ≡ some w → c < length w
+      → replayed ≡ record { number = 32; steps = 0; plan = g .start; before = [] }
+  unfolding replay
+  too-long-so w e l = rw (e, lt-ltb c (length w) l)
+
+  abbrev left-by : Replay → CheckOutcome
+  left-by r = settled r (g .a) (g .b)
+
+  single-made : (w : List ℕ) → step (g .tables) k p (g .start) ≡ some w → length w ≤ c
+      → Makes w (g .claimed) (outcome-of g .answer) × (outcome-of g .a ≡ padded (g .start) (length (g .a)))
+      × (outcome-of g .b ≡ padded w (length (g .b)))
+  unfolding area-a area-b even?
+  single-made w e l = rw (by-replay ∙ ap left-by (made-so w e l)) (makes w (g .claimed) (g .start), refl, refl)
+
+  single-31 : step (g .tables) k p (g .start) ≡ none → outcome-of g ≡ unmade g 31
+  unfolding area-a area-b even?
+  single-31 e = by-replay ∙ ap left-by (not-fitting-so e)
+
+  single-32 : (w : List ℕ) → step (g .tables) k p (g .start) ≡ some w → c < length w → outcome-of g ≡ unmade g 32
+  unfolding area-a area-b even?
+  single-32 w e l = by-replay ∙ ap left-by (too-long-so w e l)
 
 pub step-claims : (t : Tables) (start claimed rewriting a b : List ℕ)
-    → StepClaims t start claimed rewriting a b (check-outcome t start claimed rewriting a b .answer) (check-outcome t start claimed rewriting a b .a)
-    (check-outcome t start claimed rewriting a b .b)
-unfolding area-a area-b even?
+    → StepClaims (record { tables = t; start = start; claimed = claimed; rewriting = rewriting; a = a; b = b }) (check-outcome t start claimed rewriting a b)
+unfolding outcome-of
 step-claims t start claimed rewriting a b =
+    let g : CheckGiven = record { tables = t; start = start; claimed = claimed; rewriting = rewriting; a = a; b = b } in
     record {
-      made = λ k p w q ok e h. outcome-by t start claimed rewriting a b 1 w start ok (rw (q, one-made t start claimed (capacity a b) k p w e h) (refl, refl, refl));
-      not-made = λ k p q ok f. outcome-by t start claimed rewriting a b 0 start [] ok (rw q (one-kept t start claimed (capacity a b) k p f));
+      made = λ k p h w e l. single-made g k p h w e l;
+      not-fitting = λ k p h e. single-31 g k p h e;
+      too-long = λ k p h w e l. single-32 g k p h w e l;
     }

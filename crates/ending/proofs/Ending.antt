@@ -14,7 +14,7 @@ use Rattle.plans.proofs.Reading.{term-said, term-words}
 use Rattle.plans.proofs.Accepted.{accepted-term}
 use Rattle.plans.proofs.Basic.{basic-tested}
 use Rattle.laws.proofs.Tables.{Proper, lawful-proper}
-use Rattle.steps.specs.Choice.{next-step}
+use Rattle.rewritings.specs.Choice.{next-step}
 use Rattle.ending.specs.Ending.{Ends}
 use Rattle.ending.proofs.Parts.{Run, Fine, Settles, quiet}
 use Rattle.ending.proofs.Signs.{all-settle}

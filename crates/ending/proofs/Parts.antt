@@ -12,10 +12,10 @@ use Rattle.plans.specs.Basic.{Basic}
 use Rattle.plans.specs.Stack.{spell}
 use Rattle.plans.proofs.Reading.{Over-all, term-words}
 use Rattle.laws.proofs.Normal.{no-step-iff-basic}
-use Rattle.matching.specs.Choice.{first-law}
-use Rattle.steps.specs.Choice.{next-step}
-use Rattle.steps.proofs.Choosing.{fits-none}
-use Rattle.steps.proofs.Quiet.{sign-one, sign-two, quiet-push, next-found}
+use Rattle.rewritings.specs.Roots.{first-law}
+use Rattle.rewritings.specs.Choice.{next-step, first-choice, choices}
+use Rattle.rewritings.proofs.Choosing.{fits-none}
+use Rattle.rewritings.proofs.Quiet.{sign-one, sign-two, quiet-push, next-found}
 use Rattle.ending.specs.Ending.{Steps, none-left, one-more}
 
 -- any number of steps
@@ -94,7 +94,7 @@ module _ (t : Tables) (few : actions t ≤ 31) where
   in-two p s f = in-left p (λ q h. in-right h s (λ r i. f q r h i))
 
   -- then the lowest law that fits the sign is a step, and its right side settles
-  pub law-one : {o : Unary} {x v : Term} → Set-number o → Fine t x → (k : ℕ) → first-law t 5 28 (un o x) ≡ some (k, v) → Settles t v → Settles t (un o x)
+  pub law-one : {o : Unary} {x v : Term} → Set-number o → Fine t x → (k : ℕ) → first-law t first-choice choices (un o x) ≡ some (k, v) → Settles t v → Settles t (un o x)
   unfolding spell
   law-one {o} {x} {v} i h k q s =
       settles-by
@@ -106,7 +106,7 @@ module _ (t : Tables) (few : actions t ≤ 31) where
       ))
       s
 
-  pub law-two : {o : Binary} {x y v : Term} → Fine t x → Fine t y → (k : ℕ) → first-law t 5 28 (bin o x y) ≡ some (k, v) → Settles t v → Settles t (bin o x y)
+  pub law-two : {o : Binary} {x y v : Term} → Fine t x → Fine t y → (k : ℕ) → first-law t first-choice choices (bin o x y) ≡ some (k, v) → Settles t v → Settles t (bin o x y)
   unfolding spell
   law-two {o} {x} {y} {v} h i k q s =
       settles-by

@@ -14,8 +14,9 @@ use Rattle.plans.specs.Term.{Term, act, un, bin, Set-number, Over}
 use Rattle.plans.specs.Basic.{Basic, dead-stop, sum-plan, SumPlan, action, prefix, sum}
 use Rattle.laws.specs.Laws.{laws, law-at, rewrite, fit}
 use Rattle.laws.proofs.Tables.{Proper}
-use Rattle.matching.specs.Choice.{first-law}
+use Rattle.rewritings.specs.Roots.{first-law}
 use Rattle.ending.proofs.Parts.{Fine, Settles, settled, in-one, in-left, in-right, in-two, law-one, law-two}
+use Rattle.rewritings.specs.Choice.{first-choice, choices as law-count}
 
 -- the size of a term, for the merges
 unfoldable size : Term → ℕ
@@ -34,7 +35,7 @@ module _ (t : Tables) (ok : Proper t) where
   done : {u : Term} → Fine t u → Settles t u
   done {u} f = settled t (ok .few) u f
 
-  by-law : {o : Binary} {x y v : Term} (k : ℕ) → Fine t x → Fine t y → first-law t 5 28 (bin o x y) ≡ some (k, v) → Settles t v → Settles t (bin o x y)
+  by-law : {o : Binary} {x y v : Term} (k : ℕ) → Fine t x → Fine t y → first-law t first-choice law-count (bin o x y) ≡ some (k, v) → Settles t v → Settles t (bin o x y)
   by-law k f g e s = law-two t (ok .few) f g k e s
 
   fine-action : (c : ℕ) → c ≤ actions t → Fine t (act c)
@@ -62,7 +63,7 @@ module _ (t : Tables) (ok : Proper t) where
     by-parts u f = each-basic (f .0) (f .1)
 
   -- choice: laws 7 and 8
-  drop-left : {v : Term} → SumPlan v → first-law t 5 28 (bin Choice (act 0) v) ≡ some (8, v)
+  drop-left : {v : Term} → SumPlan v → first-law t first-choice law-count (bin Choice (act 0) v) ≡ some (8, v)
   unfolding first-law rewrite law-at laws fit
   drop-left (action {a = c} h) = rw (ne-eqb c 0 (omega arith))
   drop-left (prefix h b) = refl
@@ -95,7 +96,7 @@ module _ (t : Tables) (ok : Proper t) where
 
   -- encapsulation: laws 20 to 23
   module _ (d : ℕ) (number : d ≤ 7) where
-    out-law : {x v : Term} (k : ℕ) → Fine t x → first-law t 5 28 (un (Encapsulation d) x) ≡ some (k, v) → Settles t v → Settles t (un (Encapsulation d) x)
+    out-law : {x v : Term} (k : ℕ) → Fine t x → first-law t first-choice law-count (un (Encapsulation d) x) ≡ some (k, v) → Settles t v → Settles t (un (Encapsulation d) x)
     out-law k f e s = law-one t (ok .few) number f k e s
 
     out-action : (c : ℕ) → c ≤ actions t → Settles t (un (Encapsulation d) (act c))
@@ -144,7 +145,7 @@ module _ (t : Tables) (ok : Proper t) where
   unlesses {y = y} p g = in-left t (ok .few) p (unless y g)
 
   -- priority: laws 30 to 32
-  top-law : {x v : Term} (k : ℕ) → Fine t x → first-law t 5 28 (un Priority x) ≡ some (k, v) → Settles t v → Settles t (un Priority x)
+  top-law : {x v : Term} (k : ℕ) → Fine t x → first-law t first-choice law-count (un Priority x) ≡ some (k, v) → Settles t v → Settles t (un Priority x)
   top-law k f e s = law-one t (ok .few) tt f k e s
 
   top-action : (c : ℕ) → c ≤ actions t → Settles t (un Priority (act c))
@@ -176,7 +177,7 @@ module _ (t : Tables) (ok : Proper t) where
   from-sum u v y w g p q = by-law 18 w g (sum-first y g) (choices p q)
     where
       sum-first : (y : Term) → Fine t y
-          → first-law t 5 28 (bin CommunicationMerge (bin Choice u v) y) ≡ some (18, bin Choice (bin CommunicationMerge u y) (bin CommunicationMerge v y))
+          → first-law t first-choice law-count (bin CommunicationMerge (bin Choice u v) y) ≡ some (18, bin Choice (bin CommunicationMerge u y) (bin CommunicationMerge v y))
       sum-first = by-parts _ (λ d i. refl) (λ d x w f s. refl) (λ x z w f h r s. refl)
 
   -- left merge and communication merge, where smaller merges settle: laws 12 to 15, 17 and 19

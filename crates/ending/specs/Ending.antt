@@ -6,7 +6,7 @@ use mathlib.Core.List.{List}
 use mathlib.Core.Option.{none, some}
 use Rattle.tables.specs.Tables.{Tables, actions}
 use Rattle.plans.specs.Basic.{basic-words?}
-use Rattle.steps.specs.Choice.{Found, next-step}
+use Rattle.rewritings.specs.Choice.{Found, next-step}
 
 -- so many of the unfolding's steps, from one plan to another
 pub data Steps (t : Tables) : ℕ → List ℕ → List ℕ → Type 0 where

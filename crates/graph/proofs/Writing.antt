@@ -2,16 +2,18 @@
 use Prim.Native.Nat.{ℕ, suc, _+_, _-_, _≤_, _<_}
 use native.Mathlib.Omega.{arith}
 use mathlib.Core.Path.{_≡_, refl, sym, _∙_, ap}
+use mathlib.Core.Bool.{true, false}
 use mathlib.Core.List.{List, [], _∷_, _++_, append-assoc}
 use lib.ListN.{length, getD, set, length-append, length-set}
 use lib.Seq.{take-set-le, drop-set-lt, drop-cons, getD-set-same}
+use Rattle.plans.specs.Word.{takes-two?}
 use Rattle.plans.specs.Term.{words}
 use Rattle.plans.specs.Stack.{stacked}
-use Rattle.plans.proofs.Words.{binary-range, unary-low}
+use Rattle.plans.proofs.Words.{two-binary, two-unary}
 use Rattle.plans.proofs.Stack.{stacked-length, stacked-top, stacked-push}
 use Rattle.areas.specs.Area.{overwrite}
 use Rattle.areas.proofs.Area.{overwrite-none}
-use Rattle.graph.specs.Graph.{Graph, leaf, one, two, Written, as-word, as-term, ToWrite, write-none, write-more, Writable, WroteBack}
+use Rattle.graph.specs.Graph.{Graph, leaf, one, two, Written, as-word, as-term, ToWrite, write-none, write-more, Writable, WroteBack, most-nodes}
 use Rattle.graph.proofs.Terms.{holds-same}
 use Rattle.graph.proofs.Reading.{holds-inside, written-holds, to-write-long}
 
@@ -53,21 +55,21 @@ module _ {n : ℕ} (few : n ≤ 31) {g : Graph} {v : ℕ} {vs : List ℕ} where
   node-inside i (write-more (as-word l) r) = absurd (omega arith)
   node-inside i (write-more (as-term i′ l) r) = holds-inside l few i
 
-  ends-one : {said : List ℕ} → 256 ≤ v → 70 ≤ getD (g .own) v 0 → ToWrite n g (v ∷ vs) said
+  ends-one : {said : List ℕ} → 256 ≤ v → takes-two? (getD (g .own) v 0) ≡ false → ToWrite n g (v ∷ vs) said
       → Ends n g (getD (g .first) v 0 ∷ vs) (getD (g .own) v 0) said
   unfolding words
   ends-one i h (write-more (as-word l) r) = absurd (omega arith)
   ends-one i h (write-more (as-term i′ (leaf l)) r) = absurd (omega arith)
   ends-one i h (write-more {ws} (as-term i′ (one {o} {x} i″ j e k l)) r) =
       record { left = ws ++ words x; entries = write-more (written-holds l few) r; whole = rw (e, append-assoc) }
-  ends-one i h (write-more (as-term i′ (two {o} i″ j e l m)) r) = absurd (omega (arith, binary-range o))
+  ends-one i h (write-more (as-term i′ (two {o} i″ j e l m)) r) = absurd (let z : _≡_ {A = ℕ} 0 1 = cc (two-binary o) in omega arith)
 
-  ends-two : {said : List ℕ} → 256 ≤ v → getD (g .own) v 0 < 70 → ToWrite n g (v ∷ vs) said
+  ends-two : {said : List ℕ} → 256 ≤ v → takes-two? (getD (g .own) v 0) ≡ true → ToWrite n g (v ∷ vs) said
       → Ends n g (getD (g .second) v 0 ∷ (getD (g .first) v 0 ∷ vs)) (getD (g .own) v 0) said
   unfolding words
   ends-two i h (write-more (as-word l) r) = absurd (omega arith)
   ends-two i h (write-more (as-term i′ (leaf l)) r) = absurd (omega arith)
-  ends-two i h (write-more (as-term i′ (one {o} i″ j e k l)) r) = absurd (omega (arith, unary-low o))
+  ends-two i h (write-more (as-term i′ (one {o} i″ j e k l)) r) = absurd (let z : _≡_ {A = ℕ} 0 1 = cc (two-unary o k) in omega arith)
   ends-two i h (write-more {ws} (as-term i′ (two {o} {x} {y} i″ j e l m)) r) =
       record {
         left = (ws ++ words x) ++ words y;
@@ -147,24 +149,24 @@ module _ {g : Graph} {stack₀ : List ℕ} {height : ℕ} {dst₀ : List ℕ} {e
     entries-top : ToWrite (s .pre .n) g (top ∷ stacked stack (h - 1)) (s .left)
     entries-top = rw (stacked-top stack h more) at (s .entries)
 
-    pub turn-inside : 256 ≤ top → (top < length (g .own)) × (top < length (g .first)) × (top < length (g .second)) × (top < 32768)
+    pub turn-inside : 256 ≤ top → (top < length (g .own)) × (top < length (g .first)) × (top < length (g .second)) × (top < most-nodes)
     turn-inside i = let l = node-inside (s .pre .few) i entries-top in omega arith
 
     pub turn-word : top < 256 → Writing g stack₀ height dst₀ end stack (set dst (e - 1) top) (h - 1) (e - 1)
     turn-word i = writing-goes-on stack (h - 1) (ends-word (s .pre .few) i entries-top) refl refl
 
-    pub turn-one : 256 ≤ top → 70 ≤ getD (g .own) top 0
+    pub turn-one : 256 ≤ top → takes-two? (getD (g .own) top 0) ≡ false
         → Writing g stack₀ height dst₀ end (set stack (h - 1) (getD (g .first) top 0)) (set dst (e - 1) (getD (g .own) top 0)) (h - 1 + 1) (e - 1)
     turn-one i j =
         writing-goes-on (set stack (h - 1) (getD (g .first) top 0)) (h - 1 + 1) (ends-one (s .pre .few) i j entries-top)
         (stacked-push stack (h - 1) (getD (g .first) top 0) (omega arith)) (length-set stack (h - 1) (getD (g .first) top 0))
 
-    pub two-room : 256 ≤ top → getD (g .own) top 0 < 70 → h - 1 + 1 < length stack
+    pub two-room : 256 ≤ top → takes-two? (getD (g .own) top 0) ≡ true → h - 1 + 1 < length stack
     two-room i j =
         let x = ends-two (s .pre .few) i j entries-top in
         omega (arith, to-write-long (x .entries), stacked-length stack (h - 1), ap length (x .whole), length-append (x .left) (getD (g .own) top 0 ∷ []))
 
-    pub turn-two : 256 ≤ top → getD (g .own) top 0 < 70
+    pub turn-two : 256 ≤ top → takes-two? (getD (g .own) top 0) ≡ true
         → Writing g stack₀ height dst₀ end (set (set stack (h - 1) (getD (g .first) top 0)) (h - 1 + 1) (getD (g .second) top 0)) (set dst (e - 1) (getD (g .own) top 0)) (h - 1 + 1 + 1) (e - 1)
     turn-two i j =
         let a = getD (g .first) top 0 in

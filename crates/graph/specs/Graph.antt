@@ -1,4 +1,5 @@
--- Terms as a graph: a node has a word and the entries of its operands, so that a part of a term can be used again without being written out.
+-- Nobody need believe this: contracts of functions cite it. Terms as a graph: a node has a word and the entries of its operands, so that a part of a
+-- term can be used again without being written out.
 -- An entry below 256 is a word; from 256 on it is a node.
 use Prim.Native.Nat.{ℕ, _+_, _≤_, _<_}
 use mathlib.Core.Path.{_≡_}
@@ -12,6 +13,10 @@ use Rattle.plans.specs.Word.{binary-word, unary-word}
 use Rattle.plans.specs.Term.{Term, act, un, bin, words, Set-number}
 use Rattle.plans.specs.Stack.{stacked}
 use Rattle.areas.specs.Area.{overwrite}
+
+-- the greatest length of the arrays of nodes
+abbrev pub most-nodes : ℕ
+most-nodes = 32768
 
 -- the nodes in use: the word of each, the entry of its first operand, and that of the second where it has two
 pub record Graph : Type 0 where
@@ -68,7 +73,7 @@ entry-size sizes v = cond (ltb v 256) 1 (getD sizes v 0)
 pub record Nodes (g : Graph) : Type 0 where
   pub first-long : length (g .first) ≡ length (g .own)
   pub second-long : length (g .second) ≡ length (g .own)
-  pub most : length (g .own) ≤ 32768
+  pub most : length (g .own) ≤ most-nodes
 
 -- the first `height` entries of a stack can be written before place `end` of an area
 pub record Writable (g : Graph) (stack : List ℕ) (height : ℕ) (dst : List ℕ) (end : ℕ) : Type 0 where

@@ -78,7 +78,7 @@ pub fn write_back(
             dst[e] = word;
             stack[h] = first[v as usize];
             h += 1;
-            if word < 70 {
+            if plans::takes_two(word) {
                 stack[h] = second[v as usize];
                 h += 1;
             }

@@ -1,23 +1,33 @@
 -- A sign with its operands on the stack: the term at its place, and how many words it has.
 use Prim.Native.Nat.{ℕ, _+_, _-_, _≤_, _<_}
 use native.Mathlib.Omega.{arith}
-use mathlib.Core.Path.{_≡_, refl, _∙_, ap, subst}
+use mathlib.Core.Path.{_≡_, refl, sym, _∙_, ap, subst}
+use mathlib.Core.Bool.{Bool, true, false}
 use mathlib.Core.List.{List, [], _∷_, _++_, append-assoc}
 use lib.ListN.{length, getD, length-append}
-use borrow.Author.Tests.{lt-ltb, le-ltb}
 use Rattle.plans.specs.declared.Unary.{Unary}
 use Rattle.plans.specs.declared.Binary.{Binary}
-use Rattle.plans.specs.Word.{unary-word, binary-word}
+use Rattle.plans.specs.Word.{unary-word, binary-word, takes-two?}
 use Rattle.plans.specs.Term.{Term, un, bin, words, Set-number}
 use Rattle.plans.specs.Stack.{spell, stacked}
-use Rattle.plans.proofs.Words.{binary-range, unary-low}
+use Rattle.plans.proofs.Words.{binary-range, unary-low, two-unary, two-binary}
 use Rattle.plans.proofs.Stack.{stacked-length, stacked-top}
 use Rattle.graph.specs.Graph.{Graph, Holds, Root, root-one, root-two, Held, held-more}
 use Rattle.graph.proofs.Reading.{held-long, sized-holds}
-use Rattle.steps.proofs.Quiet.{sign-one, sign-two}
+use Rattle.rewritings.proofs.Quiet.{sign-one, sign-two}
 use Rattle.graphsteps.specs.declared.Operands.{Operands}
 use Rattle.graphsteps.specs.Holding.{Signed, signed-one, signed-two, TakenFor, takes-one, takes-two, size-under}
 use Rattle.graphsteps.proofs.Entries.{SignAt, sign-of-one, sign-of-two}
+
+-- how many operands a sign takes
+pub not-two : {w : ℕ} (o : Unary) → w ≡ unary-word o → Set-number o → takes-two? w ≡ false
+not-two o e k = rw e (two-unary o k)
+
+pub is-two : {w : ℕ} (o : Binary) → w ≡ binary-word o → takes-two? w ≡ true
+is-two o e = rw e (two-binary o)
+
+pub true-false : {b : Bool} → b ≡ true → b ≡ false → ⊥
+true-false p q = let e : _≡_ {A = Bool} true false = sym p ∙ q in let z : _≡_ {A = ℕ} 0 1 = cc in omega arith
 
 -- as many entries as terms
 pub stack-long : {n : ℕ} {g : Graph} (stack : List ℕ) (height : ℕ) {terms : List Term} → Held n g (stacked stack height) terms
@@ -28,7 +38,7 @@ stack-long stack height h =
 -- the operands are on the stack
 pub signed : {n : ℕ} {g : Graph} (stack : List ℕ) (height : ℕ) {v : ℕ} {terms : List Term} → Held n g (stacked stack height) terms → height ≤ length stack
     → SignAt v terms → Signed stack height v
-signed stack height h l (sign-of-one o x S e k) = signed-one o e (omega (arith, stack-long stack height h .0)) l
+signed stack height h l (sign-of-one o x S e k) = signed-one o e k (omega (arith, stack-long stack height h .0)) l
 signed stack height h l (sign-of-two o x y S e) = signed-two o e (omega (arith, stack-long stack height h .0)) l
 
 -- The term u at a sign v, with the terms S under it.
@@ -89,9 +99,9 @@ module _ {n : ℕ} (few : n ≤ 31) {g : Graph} (sizes : List ℕ) (right : (v :
   pub redex-long : (v : ℕ) (r : Operands) {u : Term} → Root n g v (r .a) (r .b) u → size-under sizes v r ≡ length (words u)
   unfolding size-under words
   redex-long v r (root-one {o} {x} e k h) =
-      rw (le-ltb v 70 (omega (arith, e, unary-low o))) (omega (arith, sized-holds sizes right h few, length-append (words x) (unary-word o ∷ [])))
+      rw (not-two o e k) (omega (arith, sized-holds sizes right h few, length-append (words x) (unary-word o ∷ [])))
   redex-long v r (root-two {o} {x} {y} e h l) =
-      rw (lt-ltb v 70 (omega (arith, e, binary-range o)))
+      rw (is-two o e)
       (omega (
         arith,
         sized-holds sizes right h few,
@@ -106,28 +116,28 @@ module _ (stack : List ℕ) (height w : ℕ) (s : Signed stack height w) where
   signed-some = go s
     where
       go : Signed stack height w → (1 ≤ height) × (height ≤ length stack)
-      go (signed-one o e l h) = (l, h)
+      go (signed-one o e k l h) = (l, h)
       go (signed-two o e l h) = (omega arith, h)
 
-  pub signed-both : w < 70 → 2 ≤ height
+  pub signed-both : takes-two? w ≡ true → 2 ≤ height
   signed-both b = go s
     where
       go : Signed stack height w → 2 ≤ height
-      go (signed-one o e l h) = absurd (omega (arith, unary-low o))
+      go (signed-one o e k l h) = absurd (true-false b (not-two o e k))
       go (signed-two o e l h) = l
 
-  pub taken-two : w < 70 → TakenFor w stack height (record { a = getD stack (height - 2) 0; b = getD stack (height - 1) 0; under = height - 2 })
+  pub taken-two : takes-two? w ≡ true → TakenFor w stack height (record { a = getD stack (height - 2) 0; b = getD stack (height - 1) 0; under = height - 2 })
   taken-two b = go s
     where
       go : Signed stack height w → TakenFor w stack height (record { a = getD stack (height - 2) 0; b = getD stack (height - 1) 0; under = height - 2 })
-      go (signed-one o e l h) = absurd (omega (arith, unary-low o))
+      go (signed-one o e k l h) = absurd (true-false b (not-two o e k))
       go (signed-two o e l h) =
           let q : height - 1 - 1 ≡ height - 2 = omega arith in
           takes-two o e (stacked-top stack height (omega arith) ∙ ap (λ (r : List ℕ). getD stack (height - 1) 0 ∷ r) (stacked-top stack (height - 1) (omega arith) ∙ rw q))
 
-  pub taken-one : 70 ≤ w → TakenFor w stack height (record { a = getD stack (height - 1) 0; b = getD stack (height - 1) 0; under = height - 1 })
+  pub taken-one : takes-two? w ≡ false → TakenFor w stack height (record { a = getD stack (height - 1) 0; b = getD stack (height - 1) 0; under = height - 1 })
   taken-one b = go s
     where
       go : Signed stack height w → TakenFor w stack height (record { a = getD stack (height - 1) 0; b = getD stack (height - 1) 0; under = height - 1 })
-      go (signed-one o e l h) = takes-one o e (stacked-top stack height (omega arith))
-      go (signed-two o e l h) = absurd (omega (arith, binary-range o))
+      go (signed-one o e k l h) = takes-one o e (stacked-top stack height (omega arith))
+      go (signed-two o e l h) = absurd (true-false (is-two o e) b)

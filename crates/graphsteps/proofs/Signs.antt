@@ -17,25 +17,26 @@ use Rattle.plans.specs.Term.{Term, words}
 use Rattle.plans.specs.Stack.{spell}
 use Rattle.plans.proofs.Reading.{Over-all}
 use Rattle.plans.proofs.Stack.{stacked-push}
-use Rattle.matching.specs.Choice.{first-law}
+use Rattle.rewritings.specs.Roots.{first-law}
 use Rattle.graph.specs.Graph.{Graph, Holds, held-more}
 use Rattle.graph.proofs.Terms.{holds-same, root-over}
 use Rattle.graph.proofs.Growing.{grown, holds-grown, root-grown, held-grown, to-read-grown, holds-new, grown-split}
-use Rattle.steps.specs.Choice.{next-step}
-use Rattle.steps.proofs.Quiet.{quiet-last, next-none}
-use Rattle.graphsteps.specs.declared.Progress.{Progress}
+use Rattle.rewritings.specs.Choice.{next-step, first-choice, choices}
+use Rattle.rewritings.proofs.Quiet.{quiet-last, next-none}
+use Rattle.graphsteps.specs.declared.Reading.{Reading}
 use Rattle.graphsteps.specs.declared.Operands.{Operands}
-use Rattle.graphsteps.specs.declared.Advancing.the-variants.{On}
+use Rattle.graphsteps.specs.declared.NextEntry.the-variants.{Read}
 use Rattle.graphsteps.specs.Holding.{Arrays, arrays, in-use, Fits, Holding, after-sign, size-under, Advanced, went-on}
 use Rattle.graphsteps.proofs.Entries.{First, sign-word}
 use Rattle.graphsteps.proofs.Redexes.{Redex, redex-long, stack-long}
 use Rattle.graphsteps.proofs.Terms.{held-over, next-entry, some-room}
+use Rattle.areas.specs.Area.{most-words}
 
 -- one entry more of an array is in use
 take-set : (l : List ℕ) (k x : ℕ) → k < length l → take (k + 1) (set l k x) ≡ take k l ++ (x ∷ [])
 take-set l k x h = rw (add-one k) (take-suc-set l k x h)
 
-module _ (t : Tables) (ok : Lawful t) (c : ℕ) (most : c ≤ 16384) (m : Arrays) (p : Progress) (fits : Fits m p) (more : p .rest < 16384) (w : List ℕ) (h : Holding t c m p w)
+module _ (t : Tables) (ok : Lawful t) (c : ℕ) (most : c ≤ most-words) (m : Arrays) (p : Reading) (fits : Fits m p) (more : p .rest < most-words) (w : List ℕ) (h : Holding t c m p w)
     (sign : getD (m .todo) (p .rest) 0 < 256) (r : Operands) (x : Redex (actions t) (in-use m (p .count)) (getD (m .todo) (p .rest) 0) (m .stack) (h .terms) r) where
   abbrev n : ℕ
   n = actions t
@@ -75,14 +76,14 @@ module _ (t : Tables) (ok : Lawful t) (c : ℕ) (most : c ≤ 16384) (m : Arrays
   pub old-small : (size-under (m .sizes) v r ≤ p .size) × (size-under (m .sizes) v r ≤ p .read + 1)
   old-small = omega (arith, redex-size, long-before, long-read, h .size-is)
 
-  pub height-under : r .under < 16384
+  pub height-under : r .under < most-words
   height-under =
       let a = stack-long (m .stack) (r .under) (x .held) in
       let b = some-room t ok c most m p fits more w h in
       omega (arith, a, b, h .read-is, ap length (x .splits), length-append (spell (x .under)) (x .more))
 
   -- no law fits there
-  module _ (count-in : p .count < length (m .own)) (none-fits : first-law t 5 28 (x .term) ≡ none) where
+  module _ (count-in : p .count < length (m .own)) (none-fits : first-law t first-choice choices (x .term) ≡ none) where
     abbrev pub after : Arrays
     after =
         arrays (set (m .own) (p .count) v) (set (m .first) (p .count) (r .a)) (set (m .second) (p .count) (r .b))
@@ -180,7 +181,7 @@ module _ (t : Tables) (ok : Lawful t) (c : ℕ) (most : c ≤ 16384) (m : Arrays
           nodes-sized = rw same-graph right-size;
         }
 
-    pub sign-read : (allowed room : ℕ) → Advanced t c allowed room m after p w (On (after-sign p r))
+    pub sign-read : (allowed room : ℕ) → Advanced t c allowed room m after p w (Read (after-sign p r))
     sign-read allowed room =
         let l = length-set (m .own) (p .count) v in
         went-on (after-sign p r)
@@ -195,7 +196,7 @@ module _ (t : Tables) (ok : Lawful t) (c : ℕ) (most : c ≤ 16384) (m : Arrays
           nodes-in = omega (arith, l);
           rest-in = omega arith;
         })
-        holding refl
+        holding refl (omega arith)
         (λ k b d.
         rw same-graph
         (record {

@@ -6,31 +6,32 @@ use mathlib.Core.List.{List, _∷_, _++_, append-assoc}
 use mathlib.Core.Option.{some}
 use lib.ListN.{length, getD, take, drop, length-append, length-drop}
 use lib.Seq.{take-at, drop-at}
-use Rattle.areas.specs.Area.{overwrite}
+use Rattle.areas.specs.Area.{overwrite, most-words}
 use Rattle.areas.proofs.Area.{drop-overwrite, overwrite-length}
 use Rattle.tables.specs.Tables.{Tables, actions}
 use Rattle.tables.specs.Lawful.{Lawful}
 use Rattle.plans.specs.Term.{Term, words}
 use Rattle.plans.specs.Stack.{spell}
 use Rattle.laws.proofs.Stepping.{step-alike}
-use Rattle.matching.specs.Choice.{first-law}
-use Rattle.matching.specs.Slots.{entries-size}
+use Rattle.rewritings.specs.Roots.{first-law}
+use Rattle.redexes.specs.Slots.{entries-size}
 use Rattle.graph.specs.Graph.{Graph, Holds, ToRead, read-none, read-more}
 use Rattle.graph.proofs.Terms.{root-over}
 use Rattle.graph.proofs.Reading.{to-read-append, to-read-long, sized-written}
-use Rattle.steps.specs.Choice.{next-step}
-use Rattle.steps.proofs.Choosing.{next-taken}
-use Rattle.steps.proofs.Prefixes.{quiet-fewer}
-use Rattle.steps.proofs.Quiet.{next-found}
-use Rattle.graphsteps.specs.declared.Progress.{Progress}
+use Rattle.rewritings.specs.Choice.{Found, next-step, first-choice, choices}
+use Rattle.rewritings.proofs.Choosing.{next-taken}
+use Rattle.rewritings.proofs.Prefixes.{quiet-fewer}
+use Rattle.rewritings.proofs.Quiet.{next-found}
+use Rattle.graphsteps.specs.declared.Reading.{Reading}
 use Rattle.graphsteps.specs.declared.Cut.{Cut}
 use Rattle.graphsteps.specs.declared.Operands.{Operands}
-use Rattle.graphsteps.specs.declared.Advancing.the-variants.{Step}
-use Rattle.graphsteps.specs.Holding.{Arrays, arrays, in-use, Fits, Holding, CutOf, size-under, Advanced, stepped}
+use Rattle.graphsteps.specs.declared.NextEntry.the-variants.{Step}
+use Rattle.graphsteps.specs.Holding.{Arrays, arrays, in-use, Fits, Holding, CutOf, size-under, NotMade, none-allowed, list-full, too-long, Advanced, stepped}
 use Rattle.graphsteps.proofs.Redexes.{Redex}
 use Rattle.graphsteps.proofs.Terms.{held-over}
 use Rattle.graphsteps.proofs.Signs as Signs
 use Rattle.graphsteps.proofs.Signs.{f, plan-at, redex-size}
+use Rattle.laws.specs.Laws.{highest-law}
 
 -- entries come to as many words as they are written as
 sizes-right : {n : ℕ} {g : Graph} (sizes : List ℕ) → ((v : ℕ) (u : Term) → 256 ≤ v → Holds n g v u → getD sizes v 0 ≡ length (words u)) → {vs ws : List ℕ}
@@ -39,9 +40,9 @@ unfolding entries-size
 sizes-right sizes right read-none = refl
 sizes-right sizes right (read-more {w = w} {ws = ws} h k) = omega (arith, sized-written sizes right h, sizes-right sizes right k, length-append w ws)
 
-module _ (t : Tables) (ok : Lawful t) (c : ℕ) (most : c ≤ 16384) (m : Arrays) (p : Progress) (fits : Fits m p) (more : p .rest < 16384) (w : List ℕ) (h : Holding t c m p w)
+module _ (t : Tables) (ok : Lawful t) (c : ℕ) (most : c ≤ most-words) (m : Arrays) (p : Reading) (fits : Fits m p) (more : p .rest < most-words) (w : List ℕ) (h : Holding t c m p w)
     (sign : getD (m .todo) (p .rest) 0 < 256) (r : Operands) (x : Redex (actions t) (in-use m (p .count)) (getD (m .todo) (p .rest) 0) (m .stack) (h .terms) r)
-    (k : ℕ) (u : Term) (chosen : first-law t 5 28 (x .term) ≡ some (k, u)) (high : k ≤ 32) (side : List ℕ) (written : ToRead (actions t) (in-use m (p .count)) side (words u)) where
+    (k : ℕ) (u : Term) (chosen : first-law t first-choice choices (x .term) ≡ some (k, u)) (high : k ≤ highest-law) (side : List ℕ) (written : ToRead (actions t) (in-use m (p .count)) side (words u)) where
   abbrev n : ℕ
   n = actions t
 
@@ -61,7 +62,10 @@ module _ (t : Tables) (ok : Lawful t) (c : ℕ) (most : c ≤ 16384) (m : Arrays
   abbrev next : List ℕ
   next = spell (x .under) ++ (words u ++ later)
 
-  found : next-step t w ≡ some (record { law = k; place = length (spell (h .terms)); plan = next })
+  abbrev step : Found
+  step = record { law = k; place = length (spell (h .terms)); plan = next }
+
+  found : next-step t w ≡ some step
   found =
       ap (λ (l : List ℕ). next-step t l) before
       ∙ next-found t few (x .under) (x .term) (root-over (x .root), held-over (x .held)) (spell (h .terms)) v (x .reads) (h .quiet) k u chosen later
@@ -76,12 +80,27 @@ module _ (t : Tables) (ok : Lawful t) (c : ℕ) (most : c ≤ 16384) (m : Arrays
   long-next : length next ≡ length (spell (x .under)) + (length (words u) + length later)
   long-next = omega (arith, length-append (spell (x .under)) (words u ++ later), length-append (words u) later)
 
-  module _ (new : ℕ) (new-is : new ≡ entries-size (m .sizes) side) (short : p .size - size-under (m .sizes) v r + new ≤ c) where
+  -- it is not made, for want of allowance or of room in the list
+  pub not-allowed : (allowed room : ℕ) → allowed ≡ 0 → NotMade t c allowed room w 34
+  not-allowed allowed room e = none-allowed step found e
+
+  pub no-room : (allowed room : ℕ) → 1 ≤ allowed → room < 3 → NotMade t c allowed room w 35
+  no-room allowed room l i = list-full step found l i
+
+  module _ (new : ℕ) (new-is : new ≡ entries-size (m .sizes) side) where
     long-new : new ≡ length (words u)
     long-new = new-is ∙ sizes-right (m .sizes) (h .nodes-sized) written
 
+    next-size : length next ≡ p .size - size-under (m .sizes) v r + new
+    next-size = let e = redex-size t ok c most m p fits more w h sign r x in omega (arith, e, long-before, long-next, long-new, h .size-is)
+
+    -- or because the next plan is too long
+    pub over-long : (allowed room : ℕ) → 1 ≤ allowed → 3 ≤ room → c < p .size - size-under (m .sizes) v r + new → NotMade t c allowed room w 36
+    over-long allowed room l i q = too-long step found l i (rw next-size q)
+
+  module _ (new : ℕ) (new-is : new ≡ entries-size (m .sizes) side) (short : p .size - size-under (m .sizes) v r + new ≤ c) where
     fits-c : length next ≤ c
-    fits-c = let e = redex-size t ok c most m p fits more w h sign r x in omega (arith, e, long-before, long-next, long-new, h .size-is)
+    fits-c = rw (next-size new new-is) short
 
     -- there is room for the right side before the entries still to read
     pub side-room : length side ≤ p .rest + 1
@@ -93,8 +112,8 @@ module _ (t : Tables) (ok : Lawful t) (c : ℕ) (most : c ≤ 16384) (m : Arrays
       abbrev pub after : Arrays
       after = arrays (m .own) (m .first) (m .second) (m .sizes) (m .stack) (overwrite (m .todo) front side)
 
-      abbrev pub next-progress : Progress
-      next-progress =
+      abbrev pub next-reading : Reading
+      next-reading =
           record {
             height = r .under;
             rest = front;
@@ -125,12 +144,12 @@ module _ (t : Tables) (ok : Lawful t) (c : ℕ) (most : c ≤ 16384) (m : Arrays
           let i : take (cut .at) next ≡ spell (x .under) = take-at (spell (x .under)) (words u ++ later) (cut .at) (sym at-is) in
           let j : drop (cut .at + cut .new) next ≡ later =
           ap (drop (cut .at + cut .new)) (sym (append-assoc (spell (x .under)) (words u) later))
-          ∙ drop-at (spell (x .under) ++ words u) later (cut .at + cut .new) (omega (arith, at-is, long-new, length-append (spell (x .under)) (words u))) in
+          ∙ drop-at (spell (x .under) ++ words u) later (cut .at + cut .new) (omega (arith, at-is, long-new new new-is, length-append (spell (x .under)) (words u))) in
           record {
             redex = x .term;
             root = x .root;
             old-is = redex-size t ok c most m p fits more w h sign r x;
-            inside = omega (arith, at-is, long-new, long-next);
+            inside = omega (arith, at-is, long-new new new-is, long-next);
             put-back = before ∙ append-assoc (spell (x .under)) (words (x .term)) later ∙ rw (i, j);
           }
 
@@ -139,7 +158,7 @@ module _ (t : Tables) (ok : Lawful t) (c : ℕ) (most : c ≤ 16384) (m : Arrays
           rw (drop-overwrite (m .todo) front side (omega (arith, fits .todo-long)), where-front)
           (to-read-append written (f t ok c most m p fits more w h sign r x .rest))
 
-      holding : Holding t c after next-progress next
+      holding : Holding t c after next-reading next
       holding =
           record {
             terms = x .under;
@@ -150,7 +169,7 @@ module _ (t : Tables) (ok : Lawful t) (c : ℕ) (most : c ≤ 16384) (m : Arrays
             read-is = at-is;
             size-is =
                 let e = redex-size t ok c most m p fits more w h sign r x in
-                omega (arith, e, long-before, long-next, long-new, h .size-is);
+                omega (arith, e, long-before, long-next, long-new new new-is, h .size-is);
             accepted = step-alike t ok k (length (spell (h .terms))) w next (h .accepted) (next-taken t w _ found .fits) .1 (omega (arith, fits-c));
             short = fits-c;
             quiet = quiet-fewer t (spell (x .under)) (x .more) (rw (x .splits) at (h .quiet));
@@ -159,9 +178,9 @@ module _ (t : Tables) (ok : Lawful t) (c : ℕ) (most : c ≤ 16384) (m : Arrays
             nodes-sized = h .nodes-sized;
           }
 
-      pub step-made : (allowed room : ℕ) → 1 ≤ allowed → 3 ≤ room → Advanced t c allowed room m after p w (Step k next-progress cut)
+      pub step-made : (allowed room : ℕ) → 1 ≤ allowed → 3 ≤ room → Advanced t c allowed room m after p w (Step k next-reading cut)
       step-made allowed room l i =
-          stepped k next-progress cut next l i high
+          stepped k next-reading cut next l i high
           (found ∙ ap (λ (q : ℕ). some (record { law = k; place = q; plan = next })) (sym (h .read-is)))
           (record {
             own-most = fits .own-most;

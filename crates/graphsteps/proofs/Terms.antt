@@ -15,20 +15,21 @@ use Rattle.plans.proofs.Stack.{stacked-push}
 use Rattle.graph.specs.Graph.{Graph, Holds, leaf, one, two, Held, held-none, held-more}
 use Rattle.graph.proofs.Terms.{holds-over}
 use Rattle.graph.proofs.Reading.{holds-inside, written-long, sized-holds}
-use Rattle.steps.specs.Choice.{next-step}
-use Rattle.steps.proofs.Quiet.{quiet-push, quiet-action}
-use Rattle.graphsteps.specs.declared.Progress.{Progress}
-use Rattle.graphsteps.specs.declared.Advancing.the-variants.{On}
+use Rattle.rewritings.specs.Choice.{next-step}
+use Rattle.rewritings.proofs.Quiet.{quiet-push, quiet-action}
+use Rattle.graphsteps.specs.declared.Reading.{Reading}
+use Rattle.graphsteps.specs.declared.NextEntry.the-variants.{Read}
 use Rattle.graphsteps.specs.Holding.{Arrays, arrays, in-use, Fits, Holding, after-term, Advanced, went-on}
 use Rattle.graphsteps.proofs.Entries.{First, first-entry, TermAt, node-term}
 use Rattle.graphsteps.proofs.Redexes.{stack-long}
+use Rattle.areas.specs.Area.{most-words}
 
 pub held-over : {n : ℕ} {g : Graph} {vs : List ℕ} {us : List Term} → Held n g vs us → Over-all n us
 held-over held-none = tt
 held-over (held-more h k) = (holds-over h, held-over k)
 
 -- a plan under work, and the entry to read
-module _ (t : Tables) (ok : Lawful t) (c : ℕ) (most : c ≤ 16384) (m : Arrays) (p : Progress) (fits : Fits m p) (more : p .rest < 16384) (w : List ℕ) (h : Holding t c m p w) where
+module _ (t : Tables) (ok : Lawful t) (c : ℕ) (most : c ≤ most-words) (m : Arrays) (p : Reading) (fits : Fits m p) (more : p .rest < most-words) (w : List ℕ) (h : Holding t c m p w) where
   abbrev n : ℕ
   n = actions t
 
@@ -52,7 +53,7 @@ module _ (t : Tables) (ok : Lawful t) (c : ℕ) (most : c ≤ 16384) (m : Arrays
   quiet-holds (two {v = x} {o} i j e k l) = h .nodes-quiet x _ i (two {o = o} i j e k l)
 
   -- there is room on the stack
-  pub some-room : (p .height < 16384) × (p .read < 16384)
+  pub some-room : (p .height < most-words) × (p .read < most-words)
   some-room =
       let f = next-entry in
       let a = stack-long (m .stack) (p .height) (h .held) in
@@ -86,7 +87,7 @@ module _ (t : Tables) (ok : Lawful t) (c : ℕ) (most : c ≤ 16384) (m : Arrays
           nodes-sized = h .nodes-sized;
         }
 
-    pub term-read : (allowed room : ℕ) → Advanced t c allowed room m after-read p w (On (after-term (m .sizes) p v))
+    pub term-read : (allowed room : ℕ) → Advanced t c allowed room m after-read p w (Read (after-term (m .sizes) p v))
     term-read allowed room =
         went-on (after-term (m .sizes) p v)
         (record {
@@ -100,7 +101,7 @@ module _ (t : Tables) (ok : Lawful t) (c : ℕ) (most : c ≤ 16384) (m : Arrays
           nodes-in = fits .nodes-in;
           rest-in = omega arith;
         })
-        holding refl (λ j x d. d)
+        holding refl (omega arith) (λ j x d. d)
 
   -- a node that is to be read is one of those in use
   pub node-inside : 256 ≤ getD (m .todo) (p .rest) 0 → getD (m .todo) (p .rest) 0 < length (m .own)

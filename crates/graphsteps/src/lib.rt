@@ -1,16 +1,20 @@
 // The unfolding's steps on a graph of terms. Terms that are read stand on a stack as entries, free of redexes; entries still to read wait at the
 // end of another array. A right side is put in as entries, its letters not written out, so that a step costs the words of its law alone.
 use graph::FIRST_NODE;
+use redexes::Bounds;
+use redexes::Put;
 ghost use mathlib.Core.Path.{_≡_};
 ghost use Prim.Native.Nat.{_+_, _≤_, _<_};
 ghost use lib.ListN.{length, set};
 ghost use Rattle.tables.specs.Tables.{actions};
 ghost use Rattle.tables.specs.Lawful.{Lawful};
 ghost use Rattle.graphsteps.specs.Holding.{arrays, Fits, SomePlan, Signed, TakenFor, SizesOf, size-under, after-term, after-sign, with-term, with-sign, with-step, AdvancedOn};
+ghost use Rattle.areas.specs.Area.{most-words};
+ghost use Rattle.graph.specs.Graph.{most-nodes};
 
 // How far the reading has come: entries on the stack, where the entries still to read begin, nodes in use; the words of the stack and of the
 // whole plan.
-pub struct Progress {
+pub struct Reading {
     pub height: usize,
     pub rest: usize,
     pub count: usize,
@@ -18,13 +22,13 @@ pub struct Progress {
     pub size: usize,
 }
 
-impl Progress {
+impl Reading {
     // A term of so many words is read.
-    pub fn after_term(self, words: usize) -> Progress
-        requires { ⌜ (self .height < 16384) × (self .rest < 16384) × (self .read ≤ 16384) × (words < 65536) ⌝ }
+    pub fn after_term(self, words: usize) -> Reading
+        requires { ⌜ (self .height < most-words) × (self .rest < most-words) × (self .read ≤ most-words) × (words < 65536) ⌝ }
         ensures { λ r. ⌜ r ≡ with-term self words ⌝ }
     {
-        Progress {
+        Reading {
             height: self.height + 1,
             rest: self.rest + 1,
             count: self.count,
@@ -34,11 +38,11 @@ impl Progress {
     }
 
     // A sign is read as a node, which stands on so many entries.
-    pub fn after_sign(self, under: usize) -> Progress
-        requires { ⌜ (under < 16384) × (self .rest < 16384) × (self .count < 32768) × (self .read ≤ 16384) ⌝ }
+    pub fn after_sign(self, under: usize) -> Reading
+        requires { ⌜ (under < most-words) × (self .rest < most-words) × (self .count < most-nodes) × (self .read ≤ most-words) ⌝ }
         ensures { λ r. ⌜ r ≡ with-sign self under ⌝ }
     {
-        Progress {
+        Reading {
             height: under + 1,
             rest: self.rest + 1,
             count: self.count + 1,
@@ -48,10 +52,10 @@ impl Progress {
     }
 
     // A step is made: its subplan stood on so many entries and started at a place; the right side is to be read from `rest` on.
-    pub fn after_step(self, under: usize, rest: usize, at: usize, size: usize) -> Progress
+    pub fn after_step(self, under: usize, rest: usize, at: usize, size: usize) -> Reading
         ensures { λ r. ⌜ r ≡ with-step self under rest at size ⌝ }
     {
-        Progress {
+        Reading {
             height: under,
             rest,
             count: self.count,
@@ -78,11 +82,13 @@ pub struct Operands {
     pub under: usize,
 }
 
-// One entry more: read; or a step by a law; or neither, for want of room or of allowance.
-pub enum Advancing {
-    On(Progress),
-    Step(u8, Progress, Cut),
-    Stuck,
+// What comes of the next entry: it is read; or a step is made there by a law; or the step is not made, for the reason with this number (34, 35
+// or 36); or it would become a node, and none is left.
+pub enum NextEntry {
+    Read(Reading),
+    Step(u8, Reading, Cut),
+    Stopped(u8),
+    NoNode,
 }
 
 // Takes a sign's operands from the stack.
@@ -91,7 +97,7 @@ fn take_operands(stack: &[u16], height: usize, word: u8) -> Operands
     ensures { λ r. ⌜ TakenFor word (now (stack .entry)) height r ⌝ }
 {
     let b = stack[height - 1];
-    if word < 70 {
+    if plans::takes_two(word) {
         return Operands {
             a: stack[height - 2],
             b,
@@ -111,22 +117,22 @@ fn redex_size(sizes: &[u16], word: u8, operands: Operands) -> usize
     ensures { λ r. ⌜ (r ≡ size-under (now (sizes .entry)) word operands) × (r < 200000) ⌝ }
 {
     let first = graph::size_of(sizes, operands.a);
-    if word < 70 {
+    if plans::takes_two(word) {
         return first + graph::size_of(sizes, operands.b) + 1;
     }
     first + 1
 }
 
 // Reads an entry that stands for a term.
-fn read_term(sizes: &[u16], stack: &mut [u16], progress: Progress, v: u16) -> Progress
-    requires { ⌜ (progress .height < length (now stack)) × (progress .rest < 16384) × (progress .read ≤ 16384) × (length (now stack) ≡ 16384) ⌝ }
+fn read_term(sizes: &[u16], stack: &mut [u16], reading: Reading, v: u16) -> Reading
+    requires { ⌜ (reading .height < length (now stack)) × (reading .rest < most-words) × (reading .read ≤ most-words) × (length (now stack) ≡ most-words) ⌝ }
     requires { ⌜ (256 ≤ v → v < length (now sizes)) ⌝ }
-    ensures { λ r. ⌜ (r ≡ after-term (now (sizes .entry)) progress v) × (now (stack .exit) ≡ set (now (stack .entry)) (progress .height) v) ⌝ }
+    ensures { λ r. ⌜ (r ≡ after-term (now (sizes .entry)) reading v) × (now (stack .exit) ≡ set (now (stack .entry)) (reading .height) v) ⌝ }
 {
-    let height = progress.height;
+    let height = reading.height;
     let size = graph::size_of(sizes, v);
     stack[height] = v;
-    progress.after_term(size)
+    reading.after_term(size)
 }
 
 // Reads a sign at which no law fits: it becomes a node.
@@ -136,27 +142,27 @@ fn read_sign(
     second: &mut [u16],
     sizes: &mut [u16],
     stack: &mut [u16],
-    progress: Progress,
+    reading: Reading,
     word: u8,
     operands: Operands,
     size: usize,
-) -> Progress
-    requires { ⌜ (length (now own) ≤ 32768) × (length (now first) ≡ length (now own)) × (length (now second) ≡ length (now own)) × (length (now sizes) ≡ length (now own)) × (length (now stack) ≡ 16384) ⌝ }
-    requires { ⌜ (progress .count < length (now own)) × (progress .rest < 16384) × (progress .read ≤ 16384) × (operands .under < 16384) × (size < 65536) ⌝ }
-    ensures { λ r. ⌜ (r ≡ after-sign progress operands) × (now (own .exit) ≡ set (now (own .entry)) (progress .count) word) × (now (first .exit) ≡ set (now (first .entry)) (progress .count) (operands .a)) × (now (second .exit) ≡ set (now (second .entry)) (progress .count) (operands .b)) × (now (sizes .exit) ≡ set (now (sizes .entry)) (progress .count) size) × (now (stack .exit) ≡ set (now (stack .entry)) (operands .under) (progress .count)) ⌝ }
+) -> Reading
+    requires { ⌜ (length (now own) ≤ most-nodes) × (length (now first) ≡ length (now own)) × (length (now second) ≡ length (now own)) × (length (now sizes) ≡ length (now own)) × (length (now stack) ≡ most-words) ⌝ }
+    requires { ⌜ (reading .count < length (now own)) × (reading .rest < most-words) × (reading .read ≤ most-words) × (operands .under < most-words) × (size < 65536) ⌝ }
+    ensures { λ r. ⌜ (r ≡ after-sign reading operands) × (now (own .exit) ≡ set (now (own .entry)) (reading .count) word) × (now (first .exit) ≡ set (now (first .entry)) (reading .count) (operands .a)) × (now (second .exit) ≡ set (now (second .entry)) (reading .count) (operands .b)) × (now (sizes .exit) ≡ set (now (sizes .entry)) (reading .count) size) × (now (stack .exit) ≡ set (now (stack .entry)) (operands .under) (reading .count)) ⌝ }
 {
-    let count = progress.count;
+    let count = reading.count;
     let under = operands.under;
     own[count] = word;
     first[count] = operands.a;
     second[count] = operands.b;
     sizes[count] = size as u16;
     stack[under] = count as u16;
-    progress.after_sign(under)
+    reading.after_sign(under)
 }
 
-// Reads one entry more. At a sign where one of laws 5 to 32 fits, the step is made, unless no step is allowed, the list has no room for three
-// bytes, or the plan would have more than limit words.
+// Reads one entry more. At a sign where one of laws 5 to 32 fits, the step is made, unless, asked in this order, no step is allowed (34), the
+// list has no room for three bytes (35), or the plan would have more than limit words (36).
 pub fn advance(
     tables: &[u8],
     n: u8,
@@ -166,69 +172,71 @@ pub fn advance(
     sizes: &mut [u16],
     stack: &mut [u16],
     todo: &mut [u16],
-    slots: &mut [u16],
-    progress: Progress,
+    reading: Reading,
     allowed: usize,
     room: usize,
     limit: usize,
-) -> Advancing
-    requires { ⌜ (n ≡ actions (now tables)) × Lawful (now tables) × (limit ≤ 16384) × (length (now slots) ≡ 6) × (progress .rest < 16384) ⌝ }
-    requires { ⌜ Fits (arrays (now own) (now first) (now second) (now sizes) (now stack) (now todo)) progress × SomePlan (now tables) limit (arrays (now own) (now first) (now second) (now sizes) (now stack) (now todo)) progress ⌝ }
-    ensures { λ r. ⌜ AdvancedOn (now (tables .entry)) limit allowed room (arrays (now (own .entry)) (now (first .entry)) (now (second .entry)) (now (sizes .entry)) (now (stack .entry)) (now (todo .entry))) (arrays (now (own .exit)) (now (first .exit)) (now (second .exit)) (now (sizes .exit)) (now (stack .exit)) (now (todo .exit))) progress r ⌝ }
+) -> NextEntry
+    requires { ⌜ (n ≡ actions (now tables)) × Lawful (now tables) × (limit ≤ most-words) × (reading .rest < most-words) ⌝ }
+    requires { ⌜ Fits (arrays (now own) (now first) (now second) (now sizes) (now stack) (now todo)) reading × SomePlan (now tables) limit (arrays (now own) (now first) (now second) (now sizes) (now stack) (now todo)) reading ⌝ }
+    ensures { λ r. ⌜ AdvancedOn (now (tables .entry)) limit allowed room (arrays (now (own .entry)) (now (first .entry)) (now (second .entry)) (now (sizes .entry)) (now (stack .entry)) (now (todo .entry))) (arrays (now (own .exit)) (now (first .exit)) (now (second .exit)) (now (sizes .exit)) (now (stack .exit)) (now (todo .exit))) reading r ⌝ }
 {
-    let rest = progress.rest;
-    let count = progress.count;
+    let rest = reading.rest;
+    let count = reading.count;
     let v = todo[rest];
     if FIRST_NODE <= v {
-        return Advancing::On(read_term(&*sizes, stack, progress, v));
+        return NextEntry::Read(read_term(&*sizes, stack, reading, v));
     }
     if v <= n as u16 {
-        return Advancing::On(read_term(&*sizes, stack, progress, v));
+        return NextEntry::Read(read_term(&*sizes, stack, reading, v));
     }
     let word = v as u8;
-    let operands = take_operands(&*stack, progress.height, word);
+    let operands = take_operands(&*stack, reading.height, word);
     let old = redex_size(&*sizes, word, operands);
-    let law = matching::first_law_at(
+    let redex = redexes::redex_at(
         tables,
-        n,
         &own[..count],
         &first[..count],
         &second[..count],
         word,
         operands.a,
         operands.b,
-        &mut *slots,
     );
+    let law = redex.law;
     if law == 0 {
         if count == own.len() {
-            return Advancing::Stuck;
+            return NextEntry::NoNode;
         }
-        return Advancing::On(read_sign(
+        return NextEntry::Read(read_sign(
             own,
             first,
             second,
             sizes,
             stack,
-            progress,
+            reading,
             word,
             operands,
             old,
         ));
     }
     if allowed == 0 {
-        return Advancing::Stuck;
+        return NextEntry::Stopped(34);
     }
     if room < 3 {
-        return Advancing::Stuck;
+        return NextEntry::Stopped(35);
     }
-    let new = matching::entries_len(law, &*slots, &*sizes);
-    let size = progress.size - old + new;
-    if limit < size {
-        return Advancing::Stuck;
-    }
-    let front = matching::put_entries(law, tables, &*slots, todo, rest + 1);
-    let at = progress.read + 1 - old;
-    let next = progress.after_step(operands.under, front, at, size);
+    let kept = reading.size - old;
+    let bounds = Bounds {
+        rest: rest + 1,
+        most: limit - kept,
+    };
+    let put = redexes::put_side(tables, &*sizes, redex, todo, bounds);
+    let Put::At(front, new) = put else {
+        return NextEntry::Stopped(36);
+    };
+    let size = kept + new;
+    let at = reading.read + 1 - old;
+    let next = reading.after_step(operands.under, front, at, size);
     let cut = Cut {
         at,
         old,
@@ -237,5 +245,5 @@ pub fn advance(
         a: operands.a,
         b: operands.b,
     };
-    Advancing::Step(law, next, cut)
+    NextEntry::Step(law, next, cut)
 }

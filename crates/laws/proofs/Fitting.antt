@@ -29,10 +29,10 @@ same-binary : (o p : Binary) → eqb (binary-word o) (binary-word p) ≡ true �
 same-binary o p e = cc (word-binary 0 (omega arith) o, word-binary 0 (omega arith) p, eqb-true (binary-word o) (binary-word p) e)
 
 -- that it suffices
-abbrev Meets : Pattern → Type 1
+abbrev pub Meets : Pattern → Type 1
 Meets p = (u : Term) (s r : Binding) (Q : Term → Binding → Type 0) → Need p s Q → fit p u s ≡ some r → Q u r
 
-meets : (p : Pattern) → Meets p
+pub meets : (p : Pattern) → Meets p
 unfolding fit
 meets (any k) u s r Q n e = subst (Q u) (Option·some-injective _ _ e) (n u)
 meets (any-action k) (act c) s r Q n e = subst (Q (act c)) (Option·some-injective _ _ e) (n c)

@@ -1,6 +1,10 @@
+pub mod Examples
 pub mod Tables
 pub mod Fitting
 pub mod Sound
 pub mod Stepping
 pub mod Places
 pub mod Normal
+pub mod Tests
+pub mod Fits
+pub mod Numbers

@@ -1,4 +1,5 @@
 -- The thirty-two laws, left to right, in the notation of the papers. (01, "Laws, left to right"; source 000, Table 1; source 001, Tables 1 and 3.)
+-- Trees, alike and basic speak of no law. Nobody need believe `fit` and `rewrite`: Fits says what they compute.
 use Prim.Native.Nat.{ℕ, suc, zero}
 use mathlib.Core.Bool.{Bool, true, false, cond, _&&_, not}
 use mathlib.Core.List.{List, [], _∷_}
@@ -112,6 +113,10 @@ laws =
     ∷ (θ (x + y) ⟶ θ x ◁ y + θ y ◁ x)  -- 32, TH3
     ∷ []
 
+-- the number of the last of them
+abbrev pub highest-law : ℕ
+highest-law = 32
+
 -- what the letters of a law stand for; letter 5 is ∂'s set
 abbrev pub Binding : Type 0
 Binding = ℕ → Term
@@ -127,7 +132,7 @@ number (act c) = c
 number (un u l) = 0
 number (bin o l r) = 0
 
--- what the letters stand for where a left side fits a plan
+-- what the letters stand for where a left side fits a plan: those letters with which the left side is the plan (proofs Fits `fit-iff`)
 unfoldable pub fit : Pattern → Term → Binding → Option Binding
 unfolding binary-word bind
 fit (any k) t s = some (bind s k t)
@@ -166,7 +171,7 @@ holds t a-not-in-set s = not (blocked t (number (s 5)) (number (s 3)))
 holds t a-below-b s = below t (number (s 3)) (number (s 4))
 holds t a-not-below-b s = not (below t (number (s 3)) (number (s 4)))
 
--- the right side put together
+-- a side of a law with the letters put in
 unfoldable pub build : Tables → Binding → Pattern → Term
 build t s (any k) = s k
 build t s (any-action k) = s k
@@ -176,12 +181,12 @@ build t s (node o p q) = bin o (build t s p) (build t s q)
 build t s (θ p) = un Priority (build t s p)
 build t s (∂ p) = un (Encapsulation (number (s 5))) (build t s p)
 
--- a law at the root of a plan: its right side put in, where its left side fits
+-- a law at the root of a plan: its right side put in, where its left side fits (specs Fits `Fits`, by proofs Fits `rewrite-iff`)
 unfoldable pub rewrite : Tables → Law → Term → Option Term
 unfolding fit holds build
 rewrite t l u = and-then (fit (l .lhs) u unbound) (λ s. cond (holds t (l .when) s) (some (build t s (l .rhs))) none)
 
--- law k; no law fits where k is 0 or above 32
+-- law k; no law fits where k is 0 or above the highest
 abbrev pub no-law : Law
 no-law = record { lhs = entry; when = always; rhs = entry }
 

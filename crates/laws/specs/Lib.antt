@@ -1,2 +1,4 @@
 pub mod Laws
 pub mod Step
+pub mod Postfix
+pub mod Fits

@@ -1,3 +1,4 @@
+-- Nobody need believe this: `step` computes `FitsAt` of Fits (proofs Fits `step-iff`), and `Rewrites` stands in proofs alone.
 -- One step, and a rewriting. (Demand 2; the customer's word REWRITING.)
 use Prim.Native.Nat.{ℕ}
 use mathlib.Core.Path.{_≡_}

@@ -6,8 +6,8 @@ use mathlib.Core.Bool.{Bool, true, false}
 use mathlib.Core.List.{List}
 use lib.ListN.{length, take, length-take}
 use Rattle.plans.specs.Basic.{orders-of}
-use Rattle.steps.specs.Records.{moves-of}
-use Rattle.demands.specs.Claims.{reached-part}
+use Rattle.rewritings.specs.Records.{moves-of}
+use Rattle.areas.specs.Reached.{reached-part}
 use Rattle.listing.specs.Listing.{first-line, words-line, step-lines, ending}
 use Rattle.listing.specs.Writing.{Wrote}
 use Rattle.listing.proofs.Writing.{left-all, left-less, left-last}

@@ -1,12 +1,12 @@
 -- The number behind `end` is 0, 34 or 36, and a plan that the program reads is never refused by the unfolding.
-use Prim.Native.Nat.{ℕ, zero, suc, _-_, _*_, _≤_}
+use Prim.Native.Nat.{ℕ, _*_, _≤_}
 use native.Mathlib.Omega.{arith}
 use mathlib.Core.Path.{_≡_, refl, _∙_, ap}
-use mathlib.Core.Bool.{Bool, true, false, _&&_}
-use mathlib.Core.List.{List, [], _++_}
+use mathlib.Core.Bool.{_&&_}
+use mathlib.Core.List.{List}
 use mathlib.Core.Option.{Option, none, some}
 use lib.ListN.{length}
-use lib.Dec.{leb, ltb}
+use lib.Dec.{leb}
 use borrow.Author.Tests.{le-ltb}
 use Rattle.refusals.specs.declared.Refusal.{Refusal}
 use Rattle.refusals.proofs.Judging.{none-of-both}
@@ -15,42 +15,20 @@ use Rattle.plans.specs.Judging.{plan-refusal}
 use Rattle.stations.specs.Block.{refuse-unless}
 use Rattle.stations.specs.File.{form-refusal, held-refusal, file-refusal, tables-held, plan-held}
 use Rattle.stations.proofs.Reading.{areas-fit}
-use Rattle.steps.specs.Records.{record-of}
-use Rattle.steps.specs.Choice.{Found, next-step}
-use Rattle.unfolding.specs.Unfolding.{Run, on-found, stop-if, run, run-of, unfold-refusal}
+use Rattle.unfolding.specs.Unfolding.{unfold-refusal}
+use Rattle.demands.specs.Claims.{allowance-spent, list-full, next-too-long}
+use Rattle.demands.proofs.Running.{Ends, no-law-fits, stops, run-ends}
 use Rattle.listing.specs.Listing.{unless-refused, run-listing, plan-listing, listing}
 use Rattle.listing.specs.Endings.{EndNumber, finished, steps-spent, plan-too-long, file-run, Endings, ended, refused}
 
+-- a list that takes every step allowed is never full: 34 comes before 35
+pub ends-numbered : {t : Tables} {m l c k n : ℕ} {w : List ℕ} → 3 * m ≤ l → Ends t m l c w k n → EndNumber n
+ends-numbered h (no-law-fits e) = finished
+ends-numbered h (stops (allowance-spent s e i)) = steps-spent
+ends-numbered h (stops (list-full s e i j)) = absurd (omega arith)
+ends-numbered h (stops (next-too-long s e i j k)) = plan-too-long
+
 module _ (t : Tables) (c : ℕ) where
-  abbrev Stop : ℕ → ℕ → List ℕ → List ℕ → List ℕ → Run
-  Stop number k w v r = record { number = number; steps = k; plan = w; before = v; records = r }
-
-  -- a list that takes every step allowed is never full: 34 comes before 35
-  pub run-ends : (m room k : ℕ) (w v r : List ℕ) → 3 * m ≤ room → EndNumber (run t c m room k w v r .number)
-  unfolding run
-  run-ends zero room k w v r h = go (next-step t w)
-    where
-      go : (o : Option Found) → EndNumber (on-found o (Stop 0 k w v r) (λ s. Stop 34 k w v r) .number)
-      go none = finished
-      go (some s) = steps-spent
-  run-ends (suc m) room k w v r h =
-      go (next-step t w) (le-ltb room 3 (omega arith)) (λ s. run-ends m (room - 3) (suc k) (s .plan) w (r ++ record-of (s .law) (s .place)) (omega arith))
-    where
-      go : (o : Option Found) → ltb room 3 ≡ false
-          → ((s : Found) → EndNumber (run t c m (room - 3) (suc k) (s .plan) w (r ++ record-of (s .law) (s .place)) .number))
-          → EndNumber
-          (on-found o (Stop 0 k w v r)
-          (λ s. stop-if (ltb room 3) (Stop 35 k w v r)
-          (λ u. stop-if (ltb c (length (s .plan))) (Stop 36 k w v r)
-          (λ u′. run t c m (room - 3) (suc k) (s .plan) w (r ++ record-of (s .law) (s .place))))) .number)
-      go none q f = finished
-      go (some s) q f = rw q (words-left (ltb c (length (s .plan))))
-        where
-          words-left : (b : Bool)
-              → EndNumber (stop-if b (Stop 36 k w v r) (λ u′. run t c m (room - 3) (suc k) (s .plan) w (r ++ record-of (s .law) (s .place))) .number)
-          words-left true = plan-too-long
-          words-left false = f s
-
   -- 15 cannot come of a plan that is as long as the areas at most
   pub no-further-refusal : (plan : List ℕ) → length plan ≤ c → plan-refusal t plan ≡ none → unfold-refusal t plan c ≡ none
   unfolding unfold-refusal
@@ -70,8 +48,7 @@ module _ (f : List ℕ) where
   unfolds e = let h = sound e in no-further-refusal (tables-held f) 8192 (plan-held f) (h .0) (h .1)
 
   number-right : EndNumber (file-run f .number)
-  unfolding run-of
-  number-right = run-ends (tables-held f) 8192 5000 15000 0 (plan-held f) [] [] (omega arith)
+  number-right = ends-numbered (omega arith) (run-ends (tables-held f) (plan-held f) 5000 15000 8192)
 
   by-refusal : (o : Option Refusal) → file-refusal f 2305 8192 ≡ o → listing f ≡ unless-refused o (plan-listing (tables-held f) (plan-held f))
   unfolding listing

@@ -19,8 +19,8 @@ use Rattle.stations.specs.File.{blocks, length-right, held, form-refusal, held-
 use Rattle.stations.specs.File as file-of
 use Rattle.laws.specs.Laws.{laws, law-at, rewrite, fit, bind, holds, build, same-bytes}
 use Rattle.laws.specs.Step.{step}
-use Rattle.steps.specs.Records.{record-of, moves-of}
-use Rattle.steps.specs.Choice.{next-step, lowest-law}
+use Rattle.rewritings.specs.Records.{record-of, bytes-of, first-record, cut-from, moves-of}
+use Rattle.rewritings.specs.Choice.{next-step, lowest-law}
 use Rattle.unfolding.specs.Unfolding.{run, run-of, unfold-refusal}
 use Rattle.listing.specs.Text.{ascii, digits-within, decimal, labelled}
 use Rattle.listing.specs.Listing.{first-line, further-words, words-line, step-line, step-lines, ending, run-listing, plan-listing, listing}
@@ -74,7 +74,7 @@ accepted = refl
 
 -- the lines of the run
 printed : run-listing trial (run-of trial plan 5000 15000 8192) ≡ ascii "end 0 steps 4 size 9 orders 3\n1 2 65 2 1 65 64 3 64\n11 2\n12 2\n12 5\n10 9\n"
-unfolding trial plan actions communication below blocked word-of sign-of operands-of binary-word unary-word run-of run next-step lowest-law step law-at laws rewrite fit bind holds build same-bytes subterm replace term-of read push words record-of moves-of ending first-line words-line further-words step-line step-lines orders-of orders basic? sum-plan? labelled decimal digits-within
+unfolding trial plan actions communication below blocked word-of sign-of operands-of binary-word unary-word run-of run next-step lowest-law step law-at laws rewrite fit bind holds build same-bytes subterm replace term-of read push words record-of bytes-of first-record cut-from moves-of ending first-line words-line further-words step-line step-lines orders-of orders basic? sum-plan? labelled decimal digits-within
 printed = refl
 
 -- what is printed for a file, from what it holds

@@ -5,7 +5,7 @@ use mathlib.Core.List.{List, [], _∷_, _++_}
 use lib.ListN.{length, getD, length-append}
 use Rattle.refusals.specs.declared.Refusal.{Refusal}
 use Rattle.refusals.specs.Refusal.{printed}
-use Rattle.steps.specs.Records.{moves-of}
+use Rattle.rewritings.specs.Records.{moves-of}
 use Rattle.listing.specs.Text.{decimal, labelled, line-end, space, ascii}
 use Rattle.listing.specs.Listing.{first-line, further-words, words-line, step-line, step-lines, refused-line}
 use Rattle.listing.proofs.Decimal.{decimal-count, decimal-short, labelled-length}

@@ -6,7 +6,7 @@ use mathlib.Core.Path.{_≡_, refl}
 use mathlib.Core.List.{List, [], _∷_, _++_, append-assoc}
 use lib.ListN.{length, getD, drop, length-drop, drop-of-length-le}
 use lib.Seq.{drop-cons}
-use Rattle.steps.specs.Records.{moves-of}
+use Rattle.rewritings.specs.Records.{moves-of}
 use Rattle.listing.specs.Text.{labelled, line-end, space}
 use Rattle.listing.specs.Listing.{further-words, words-line, step-line, step-lines}
 

@@ -1,28 +1,25 @@
 -- What is printed of a plan, from what the unfolding answers and leaves.
 use Prim.Native.Nat.{ℕ, _*_, _≤_, min}
 use native.Mathlib.Omega.{arith}
-use mathlib.Core.Path.{_≡_, refl, sym, _∙_, ap, subst}
+use mathlib.Core.Path.{_≡_, refl, sym, _∙_, ap}
 use mathlib.Core.Bool.{Bool, true, false, cond}
-use mathlib.Core.List.{List, []}
+use mathlib.Core.List.{List}
 use mathlib.Core.Option.{Option, none, some}
-use lib.ListN.{length, take}
-use lib.Dec.{eqb, ltb}
-use borrow.Author.Tests.{eqb-true, ltb-false}
+use lib.ListN.{length}
+use lib.Dec.{eqb}
+use borrow.Author.Tests.{eqb-true}
 use Rattle.refusals.specs.declared.Refusal.{Refusal}
-use Rattle.refusals.proofs.Judging.{none-of-both}
 use Rattle.areas.specs.Area.{padded}
 use Rattle.tables.specs.Tables.{Tables, actions}
-use Rattle.plans.specs.Judging.{plan-refusal}
-use Rattle.plans.proofs.Options.{never}
-use Rattle.plans.proofs.Accepted.{plan-accepted-iff, few-actions}
-use Rattle.buffer.specs.Areas.{capacity, even?, area-a, area-b}
+use Rattle.areas.specs.Reached.{capacity, even?, area-a, area-b, reached-part}
+use Rattle.rewritings.specs.Records.{bytes-of}
 use Rattle.unfolding.specs.declared.Unfolded.{Unfolded}
 use Rattle.unfolding.specs.declared.Unfolded.the-variants.{Finished, Stopped, Refused}
 use Rattle.unfolding.specs.Unfolding.{Run, run-of, unfold-refusal, unfold-outcome, UnfoldOutcome}
 use Rattle.unfolding.specs.Unfolding as unfolding-of
-use Rattle.demands.specs.Claims.{reached-part, own-rewriting}
-use Rattle.demands.proofs.Claims.{take-padded, reached-is}
-use Rattle.demands.proofs.Running.{Followed, followed}
+use Rattle.demands.specs.Claims.{own-rewriting}
+use Rattle.demands.proofs.Running.{run-records-long, run-held}
+use Rattle.demands.proofs.Claims.{take-padded, reached-is, unfold-accepts}
 use Rattle.listing.specs.Listing as listing-of
 use Rattle.listing.specs.Listing.{ending, refused-line, plan-listing}
 
@@ -51,9 +48,6 @@ not-refused r f false e = let z : _≡_ {A = ℕ} 0 1 = cc in omega arith
 not-ended : (g : Refusal) {x : Unfolded} {n s k : ℕ} → Ended x n s k → x ≡ Refused g → ⊥
 not-ended g finished e = let z : _≡_ {A = ℕ} 0 1 = cc in omega arith
 not-ended g stopped e = let z : _≡_ {A = ℕ} 0 1 = cc in omega arith
-
-counted : {t : Tables} {c room : ℕ} {w : List ℕ} {r : Run} → Followed t c room 0 w [] [] r → (length (r .records) ≡ 3 * (r .steps)) × (length (r .records) ≤ room)
-counted f = let i = ap length (f .is-own) in (omega (arith, f .counted), omega (arith, f .held))
 
 -- what is printed of a plan whose unfolding ended with number n after s steps, and left the list l, the areas y and z, and k words reached
 pub record Prints (t : Tables) (plan l y z : List ℕ) (n s k : ℕ) : Type 0 where
@@ -87,32 +81,18 @@ module _ (t : Tables) (plan list a b : List ℕ) (hl : length list ≡ 15000) (h
       go none h = absurd (not-refused R f (eqb (R .number) 0) (sym q ∙ h))
 
   few-of : unfold-refusal t plan 8192 ≡ none → actions t ≤ 31
-  unfolding unfold-refusal
-  few-of h = few-actions t (plan-accepted-iff t plan .0 (none-of-both (plan-refusal t plan) _ .0 h .0) .0)
+  few-of h = unfold-accepts t plan 8192 .0 h .0 .lawful .well-formed .few-actions
 
-  fits : unfold-refusal t plan 8192 ≡ none → length plan ≤ 8192
-  unfolding unfold-refusal
-  fits h = go (ltb 8192 (length plan)) _ refl (none-of-both (plan-refusal t plan) _ .0 h .1)
-    where
-      go : (x : Bool) (f : Refusal) → ltb 8192 (length plan) ≡ x → cond x (some f) none ≡ none → length plan ≤ 8192
-      go true f q e = never (sym e)
-      go false f q e = ltb-false 8192 (length plan) q
-
-  -- three bytes are recorded for each step, and the list holds them
-  recorded : length plan ≤ 8192 → (length (R .records) ≡ 3 * (R .steps)) × (length (R .records) ≤ 15000)
-  unfolding run-of
-  recorded h = counted (followed t 8192 5000 15000 0 plan [] [] h)
-
-  own-is : length plan ≤ 8192 → own-rewriting (R .steps) (padded (R .records) (length list)) ≡ R .records
+  -- three bytes are recorded for each step
+  own-is : own-rewriting (R .steps) (padded (bytes-of (R .moves)) (length list)) ≡ bytes-of (R .moves)
   unfolding own-rewriting
-  own-is h = subst (λ (i : ℕ). take i (padded (R .records) (length list)) ≡ R .records) (recorded h .0) (take-padded (R .records) (length list))
+  own-is = rw (← run-records-long t plan 5000 15000 8192) (take-padded (bytes-of (R .moves)) (length list))
 
-  settled-listing : {l y z : List ℕ} {n s k : ℕ} → unfold-refusal t plan 8192 ≡ none → Same R n s k → l ≡ padded (R .records) (length list)
+  settled-listing : {l y z : List ℕ} {n s k : ℕ} → unfold-refusal t plan 8192 ≡ none → Same R n s k → l ≡ padded (bytes-of (R .moves)) (length list)
       → y ≡ area-a (even? (R .steps)) (R .plan) (R .before) (length a) → z ≡ area-b (even? (R .steps)) (R .plan) (R .before) (length b) → Prints t plan l y z n s k
   unfolding plan-listing
   settled-listing {l} {y} {z} {n} {s} {k} h m el ey ez =
-      let i = fits h in
-      let o : own-rewriting s l ≡ R .records = ap (λ (j : ℕ). own-rewriting j l) (m .steps) ∙ ap (λ (j : List ℕ). own-rewriting (R .steps) j) el ∙ own-is i in
+      let o : own-rewriting s l ≡ bytes-of (R .moves) = ap (λ (j : ℕ). own-rewriting j l) (m .steps) ∙ ap (λ (j : List ℕ). own-rewriting (R .steps) j) el ∙ own-is in
       let p : reached-part (even? s) k y z ≡ R .plan =
       ap (λ (j : ℕ). reached-part (even? j) k y z) (m .steps)
       ∙ ap (λ (j : ℕ). reached-part (even? (R .steps)) j y z) (m .size)
@@ -121,11 +101,11 @@ module _ (t : Tables) (plan list a b : List ℕ) (hl : length list ≡ 15000) (h
       ∙ reached-is (even? (R .steps)) (R .plan) (R .before) (length a) (length b) in
       record {
         few = few-of h;
-        long = omega (arith, recorded i, m .steps);
+        long = omega (arith, run-held t plan 5000 15000 8192, m .steps);
         text = ap (λ (j : Option Refusal). listing-of.unless-refused j (listing-of.run-listing t R)) h
-            ∙ ap (λ (j : ℕ). ending (actions t) j (R .steps) (R .plan) (R .records)) (sym (m .number))
-            ∙ ap (λ (j : ℕ). ending (actions t) n j (R .plan) (R .records)) (sym (m .steps))
-            ∙ ap (λ (j : List ℕ). ending (actions t) n s j (R .records)) (sym p)
+            ∙ ap (λ (j : ℕ). ending (actions t) j (R .steps) (R .plan) (bytes-of (R .moves))) (sym (m .number))
+            ∙ ap (λ (j : ℕ). ending (actions t) n j (R .plan) (bytes-of (R .moves))) (sym (m .steps))
+            ∙ ap (λ (j : List ℕ). ending (actions t) n s j (bytes-of (R .moves))) (sym p)
             ∙ ap (λ (j : List ℕ). ending (actions t) n s (reached-part (even? s) k y z) j) (sym o);
       }
 

@@ -8,7 +8,7 @@ use Rattle.refusals.specs.Refusal.{printed}
 use Rattle.tables.specs.Tables.{Tables, actions}
 use Rattle.plans.specs.Basic.{orders-of}
 use Rattle.stations.specs.File.{file-refusal, tables-held, plan-held}
-use Rattle.steps.specs.Records.{Move, moves-of}
+use Rattle.rewritings.specs.Records.{Move, bytes-of, moves-of}
 use Rattle.unfolding.specs.Unfolding.{Run, run-of, unfold-refusal}
 use Rattle.listing.specs.Text.{labelled, line-end, space, ascii}
 
@@ -49,7 +49,7 @@ unless-refused none text = text
 
 -- of a run of the unfolding
 abbrev pub run-listing : Tables → Run → List ℕ
-run-listing t r = ending (actions t) (r .number) (r .steps) (r .plan) (r .records)
+run-listing t r = ending (actions t) (r .number) (r .steps) (r .plan) (bytes-of (r .moves))
 
 -- "allowance 5,000, … areas A and B 8,192 each, list 15,000"
 unfoldable pub plan-listing : Tables → List ℕ → List ℕ

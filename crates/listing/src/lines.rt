@@ -3,7 +3,7 @@ use crate::text;
 use refusals::Refusal;
 ghost use Prim.Native.Nat.{_+_, _*_, _≤_};
 ghost use lib.ListN.{length};
-ghost use Rattle.steps.specs.Records.{moves-of};
+ghost use Rattle.rewritings.specs.Records.{moves-of};
 ghost use Rattle.listing.specs.Listing.{first-line, words-line, step-line, step-lines, refused-line};
 ghost use Rattle.listing.specs.Writing.{Wrote};
 

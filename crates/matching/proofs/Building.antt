@@ -14,10 +14,13 @@ use Rattle.plans.specs.Word.{binary-word, unary-word}
 use Rattle.plans.specs.Term.{words}
 use Rattle.plans.proofs.Words.{binary-range}
 use Rattle.laws.specs.Laws.{Pattern, any, any-action, δ, entry, node, θ, ∂, Binding, number, build}
-use Rattle.matching.specs.Check.{part, letter}
-use Rattle.matching.specs.Right.{forth, spelled-one, spelled, Reaches, width, sized}
-use Rattle.matching.proofs.Table.{and-left, and-right}
+use Rattle.plans.specs.Place.{part}
+use Rattle.matching.specs.Check.{letter}
+use Rattle.laws.specs.Postfix.{forth}
+use Rattle.matching.specs.Right.{spelled-one, spelled, Reaches, width, sized}
+use Rattle.laws.proofs.Tests.{and-left, and-right}
 use Rattle.matching.proofs.Fitting.{Rel}
+use Rattle.areas.specs.Area.{most-words}
 
 -- What the words of a right side come to.
 module _ (c : ℕ) (plan f g : List ℕ) where
@@ -134,12 +137,12 @@ spelled-size c plan f g r [] = refl
 spelled-size c plan f g r (w ∷ ws) = rw (length-append (spelled-one c plan f g w) (spelled c plan f g ws), spelled-size c plan f g r ws, one-size c plan f g r w)
 
 -- a right side of few words comes to few words
-pub size-bound : (plan f g : List ℕ) → Reaches plan f g → length plan ≤ 16384 → (ws : List ℕ) → sized f g ws ≤ 16384 * length ws
+pub size-bound : (plan f g : List ℕ) → Reaches plan f g → length plan ≤ most-words → (ws : List ℕ) → sized f g ws ≤ most-words * length ws
 unfolding sized width
 size-bound plan f g r h [] = omega arith
 size-bound plan f g r h (w ∷ ws) = omega (arith, size-bound plan f g r h ws, one (ltb w 96) (ltb w 102) refl refl)
   where
-    one : (x y : Bool) → ltb w 96 ≡ x → ltb w 102 ≡ y → cond x 1 (cond y (getD g (w - 96) 0 - getD f (w - 96) 0) 1) ≤ 16384
+    one : (x y : Bool) → ltb w 96 ≡ x → ltb w 102 ≡ y → cond x 1 (cond y (getD g (w - 96) 0 - getD f (w - 96) 0) 1) ≤ most-words
     one true y p q = omega arith
     one false true p q = omega (arith, r .within (w - 96) (omega (arith, ltb-true w 102 q, ltb-false w 96 p)))
     one false false p q = omega arith

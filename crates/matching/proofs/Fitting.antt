@@ -16,10 +16,11 @@ use Rattle.plans.specs.Term.{Term, act, un, bin, words, and-then}
 use Rattle.plans.proofs.Words.{binary-range, unary-low}
 use Rattle.laws.specs.Laws.{Pattern, any, any-action, δ, entry, node, θ, ∂, Binding, bind, number, fit}
 use Rattle.matching.specs.Left.{back, next-of, slot-of, match-words, Matched}
-use Rattle.matching.specs.Check.{part, letter}
+use Rattle.plans.specs.Place.{part}
+use Rattle.matching.specs.Check.{letter}
 use Rattle.matching.specs.declared.left.Moved.the-variants.{To, Fails}
-use Rattle.matching.proofs.Table.{and-left, and-right}
-use Rattle.matching.proofs.Stack.{height, Stands, stands-start, stands-pop, last, parts, stands-parts, height-parts, stands-last, part-term, part-last}
+use Rattle.laws.proofs.Tests.{and-left, and-right}
+use Rattle.plans.proofs.Standing.{height, Stands, stands-start, stands-pop, last, parts, stands-parts, height-parts, stands-last, part-term, part-last}
 
 -- where each kind of word leads
 module _ (n : ℕ) (few : n ≤ 31) (plan : List ℕ) where

@@ -5,10 +5,12 @@ use mathlib.Core.List.{List, [], _∷_}
 use lib.ListN.{getD}
 use Rattle.tables.specs.Tables.{Tables, communication}
 use Rattle.plans.specs.Word.{binary-word}
-use Rattle.laws.specs.Laws.{same-bytes, law-at, laws}
+use Rattle.laws.specs.Laws.{same-bytes, law-at, laws, highest-law}
 use Rattle.matching.specs.Left.{back}
-use Rattle.matching.specs.Check.{part, word-from}
-use Rattle.matching.specs.Right.{forth, spelled, spelled-law}
+use Rattle.plans.specs.Place.{part}
+use Rattle.matching.specs.Check.{word-from}
+use Rattle.laws.specs.Postfix.{forth}
+use Rattle.matching.specs.Right.{spelled, spelled-law}
 use Rattle.matching.proofs.Table.{Cut, cut}
 
 unfoldable pub left : List ℕ
@@ -17,7 +19,7 @@ left = 64 ∷ 97 ∷ 96 ∷ 64 ∷ 64 ∷ 98 ∷ 97 ∷ 96 ∷ 64 ∷ 98 ∷ 64 
 unfoldable pub left-at : List ℕ
 left-at = 0 ∷ 3 ∷ 8 ∷ 13 ∷ 16 ∷ 21 ∷ 26 ∷ 29 ∷ 32 ∷ 35 ∷ 38 ∷ 41 ∷ 44 ∷ 49 ∷ 54 ∷ 59 ∷ 64 ∷ 71 ∷ 76 ∷ 81 ∷ 83 ∷ 85 ∷ 89 ∷ 93 ∷ 96 ∷ 99 ∷ 104 ∷ 109 ∷ 114 ∷ 119 ∷ 121 ∷ 125 ∷ 129 ∷ []
 
-pub left-of : (law : ℕ) → 1 ≤ law → law ≤ 32 → Cut left left-at (λ k. back (law-at k .lhs)) law
+pub left-of : (law : ℕ) → 1 ≤ law → law ≤ highest-law → Cut left left-at (λ k. back (law-at k .lhs)) law
 unfolding left left-at same-bytes back law-at laws binary-word
 left-of law h l = cut left left-at (λ k. back (law-at k .lhs)) refl law h l
 
@@ -27,12 +29,12 @@ right = 97 ∷ 96 ∷ 64 ∷ 96 ∷ 97 ∷ 64 ∷ 98 ∷ 64 ∷ 96 ∷ 97 ∷ 98
 unfoldable pub right-at : List ℕ
 right-at = 0 ∷ 3 ∷ 8 ∷ 13 ∷ 14 ∷ 21 ∷ 26 ∷ 27 ∷ 28 ∷ 29 ∷ 30 ∷ 41 ∷ 44 ∷ 49 ∷ 56 ∷ 61 ∷ 66 ∷ 73 ∷ 80 ∷ 87 ∷ 88 ∷ 89 ∷ 94 ∷ 99 ∷ 100 ∷ 101 ∷ 104 ∷ 109 ∷ 114 ∷ 121 ∷ 122 ∷ 127 ∷ 136 ∷ []
 
-pub right-of : (law : ℕ) → 1 ≤ law → law ≤ 32 → Cut right right-at (λ k. forth (law-at k .rhs)) law
+pub right-of : (law : ℕ) → 1 ≤ law → law ≤ highest-law → Cut right right-at (λ k. forth (law-at k .rhs)) law
 unfolding right right-at same-bytes forth law-at laws binary-word
 right-of law h l = cut right right-at (λ k. forth (law-at k .rhs)) refl law h l
 
 -- the part of the table for a law, written out with the table entry of a and b
-pub side-spelled : (t : Tables) (law : ℕ) (plan f g : List ℕ) (c a b : ℕ) → 1 ≤ law → law ≤ 32 → a ≡ word-from plan f 3 → b ≡ word-from plan f 4 → c ≡ communication t a b
+pub side-spelled : (t : Tables) (law : ℕ) (plan f g : List ℕ) (c a b : ℕ) → 1 ≤ law → law ≤ highest-law → a ≡ word-from plan f 3 → b ≡ word-from plan f 4 → c ≡ communication t a b
     → spelled c plan f g (part (getD right-at (law - 1) 0) (getD right-at law 0) right) ≡ spelled-law t law plan f g
 unfolding spelled-law
 side-spelled t law plan f g c a b h l i j e = rw (right-of law h l .same, e, i, j)

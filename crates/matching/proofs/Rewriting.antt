@@ -11,16 +11,19 @@ use lib.Dec.{eqb}
 use borrow.Author.Tests.{eqb-true, ne-eqb}
 use Rattle.tables.specs.Tables.{Tables, communication, below, blocked}
 use Rattle.plans.specs.Term.{Term, words, and-then}
-use Rattle.laws.specs.Laws.{laws, law-at, Condition, always, same-words, a-in-set, a-not-in-set, a-below-b, a-not-below-b, Binding, unbound, number, holds, build, rewrite}
+use Rattle.laws.specs.Laws.{laws, law-at, Condition, always, same-words, a-in-set, a-not-in-set, a-below-b, a-not-below-b, Binding, unbound, number, holds, build, rewrite, highest-law}
 use Rattle.matching.specs.Start.{Ready}
 use Rattle.matching.specs.Left.{back, match-words, Matched}
-use Rattle.matching.specs.Check.{part, letter, check-at, word-from, set-from, holds-of}
+use Rattle.plans.specs.Place.{part}
+use Rattle.matching.specs.Check.{letter, check-at, word-from, set-from, holds-of}
 use Rattle.matching.specs.Right.{spelled-law, Reaches}
-use Rattle.matching.specs.Choice.{law-term, Tried, fails, fits as fits-law}
+use Rattle.rewritings.specs.Roots.{law-term}
+use Rattle.matching.specs.Tried.{Tried, fails, fits as fits-law}
 use Rattle.matching.specs.declared.condition.Check.{Check}
 use Rattle.matching.specs.declared.condition.Check.the-variants.{Always, Same, InSet, NotInSet, Below, NotBelow}
-use Rattle.matching.proofs.Table.{and-left, and-right, passes, passed}
-use Rattle.matching.proofs.Stack.{height, last-of}
+use Rattle.laws.proofs.Tests.{and-left, and-right, passes, passed}
+use Rattle.plans.proofs.Standing.{height}
+use Rattle.matching.proofs.Stack.{last-of}
 use Rattle.matching.proofs.Fitting.{Rel, letters, plain, Fitted, no-fit, fits, fitted}
 use Rattle.matching.proofs.Matching.{match-reaches}
 use Rattle.matching.proofs.Building.{covered, built}
@@ -141,7 +144,7 @@ start-rel plan f g h l =
     no : false ≡ true → ⊥
     no e = let q : _≡_ {A = ℕ} 0 1 = cc in omega arith
 
-module _ (k : ℕ) (low : 1 ≤ k) (high : k ≤ 32) where
+module _ (k : ℕ) (low : 1 ≤ k) (high : k ≤ highest-law) where
   all : well k ≡ true
   all = let e : suc (k - 1) ≡ k = omega arith in rw e at (passed (λ j. well (suc j)) 32 all-well (k - 1) (omega arith))
 

@@ -9,11 +9,13 @@ use lib.Dec.{leb}
 use borrow.Author.Tests.{leb-true}
 use Rattle.tables.specs.Tables.{Tables, communication}
 use Rattle.plans.specs.Word.{binary-word}
-use Rattle.laws.specs.Laws.{law-at, laws}
+use Rattle.laws.specs.Laws.{law-at, laws, highest-law}
 use Rattle.matching.specs.Check.{word-from}
-use Rattle.matching.specs.Right.{forth, spelled-law, law-size, Reaches}
-use Rattle.matching.proofs.Table.{passes, passed}
+use Rattle.laws.specs.Postfix.{forth}
+use Rattle.matching.specs.Right.{spelled-law, law-size, Reaches}
+use Rattle.laws.proofs.Tests.{passes, passed}
 use Rattle.matching.proofs.Building.{spelled-size, size-bound}
+use Rattle.areas.specs.Area.{most-words}
 
 pub spelled-law-length : (t : Tables) (k : ℕ) (plan f g : List ℕ) → Reaches plan f g → length (spelled-law t k plan f g) ≡ law-size k f g
 unfolding spelled-law law-size
@@ -27,14 +29,14 @@ all-short : passes short? 32 ≡ true
 unfolding short? forth law-at laws binary-word
 all-short = refl
 
-pub side-short : (k : ℕ) → 1 ≤ k → k ≤ 32 → length (forth (law-at k .rhs)) ≤ 11
+pub side-short : (k : ℕ) → 1 ≤ k → k ≤ highest-law → length (forth (law-at k .rhs)) ≤ 11
 unfolding short?
 side-short k l h =
     let e : suc (k - 1) ≡ k = omega arith in
     let q : length (forth (law-at (suc (k - 1)) .rhs)) ≤ 11 = leb-true _ 11 (passed short? 32 all-short (k - 1) (omega arith)) in
     rw e at q
 
-pub law-size-bound : (k : ℕ) (plan f g : List ℕ) → 1 ≤ k → k ≤ 32 → Reaches plan f g → length plan ≤ 16384 → law-size k f g ≤ 180224
+pub law-size-bound : (k : ℕ) (plan f g : List ℕ) → 1 ≤ k → k ≤ highest-law → Reaches plan f g → length plan ≤ most-words → law-size k f g ≤ 180224
 unfolding law-size
 law-size-bound k plan f g l h r few = omega (arith, size-bound plan f g r few (forth (law-at k .rhs)), side-short k l h)
 

@@ -1,37 +1,16 @@
 -- Tables of the code as the definitions have them, shown by tests that antt computes.
-use Prim.Native.Nat.{ℕ, suc, zero, _-_, _≤_, _<_}
-use mathlib.Core.Path.{_≡_, refl}
-use mathlib.Core.Bool.{Bool, true, false, _&&_, and-eq-true-iff}
+use Prim.Native.Nat.{ℕ, suc, zero, _-_, _≤_}
+use mathlib.Core.Path.{_≡_}
+use mathlib.Core.Bool.{Bool, true, _&&_}
 use mathlib.Core.List.{List}
 use native.Mathlib.Omega.{arith}
 use lib.ListN.{length, getD}
-use lib.Dec.{eqb, leb}
-use borrow.Author.Tests.{leb-true, eqb-true, eqb-false}
-use Rattle.laws.specs.Laws.{same-bytes}
-use Rattle.matching.specs.Check.{part}
+use lib.Dec.{leb}
+use borrow.Author.Tests.{leb-true}
+use Rattle.plans.specs.Place.{part}
+use Rattle.laws.specs.Laws.{same-bytes, highest-law}
 use Rattle.laws.proofs.Sound.{same-list}
-
-pub and-left : (a b : Bool) → a && b ≡ true → a ≡ true
-and-left a b e = and-eq-true-iff a b .0 e .0
-
-pub and-right : (a b : Bool) → a && b ≡ true → b ≡ true
-and-right a b e = and-eq-true-iff a b .0 e .1
-
--- a test passes at each of the first m numbers
-abbrev pub passes : (ℕ → Bool) → ℕ → Bool
-passes f zero = true
-passes f (suc m) = f m && passes f m
-
-pub passed : (f : ℕ → Bool) (m : ℕ) → passes f m ≡ true → (k : ℕ) → k < m → f k ≡ true
-passed f zero e k h = absurd (omega arith)
-passed f (suc m) e k h = go (eqb k m) refl (λ l. passed f m (and-right (f m) (passes f m) e) k l)
-  where
-    low : (k ≡ m → ⊥) → k < m
-    low d = omega arith
-
-    go : (b : Bool) → eqb k m ≡ b → (k < m → f k ≡ true) → f k ≡ true
-    go true q r = rw (eqb-true k m q) (and-left (f m) (passes f m) e)
-    go false q r = r (low (eqb-false k m q))
+use Rattle.laws.proofs.Tests.{and-left, and-right, passes, passed}
 
 -- A table of words, cut at places: the part before the cut of each law is its side.
 module _ (table cuts : List ℕ) (side : ℕ → List ℕ) where
@@ -58,6 +37,6 @@ module _ (table cuts : List ℕ) (side : ℕ → List ℕ) where
         same = rw e (same-list _ _ (and-right (leb b (length table)) s t));
       }
 
-  pub cut : passes cut-right 32 ≡ true → (law : ℕ) → 1 ≤ law → law ≤ 32 → Cut law
+  pub cut : passes cut-right 32 ≡ true → (law : ℕ) → 1 ≤ law → law ≤ highest-law → Cut law
   cut e zero h l = absurd (omega arith)
   cut e (suc k) h l = cut-after k (passed cut-right 32 e k (omega arith))

@@ -1,10 +1,11 @@
--- The conditions of the laws, on a plan's words.
+-- Nobody need believe this: contracts of functions cite it. The conditions of the laws, on a plan's words.
 use Prim.Native.Nat.{ℕ, _-_}
 use mathlib.Core.Bool.{Bool, true, cond, not}
 use mathlib.Core.List.{List}
-use lib.ListN.{getD, take, drop}
+use lib.ListN.{getD}
 use lib.Dec.{eqb}
 use Rattle.tables.specs.Tables.{Tables, blocked, below}
+use Rattle.plans.specs.Place.{part}
 use Rattle.laws.specs.Laws.{same-bytes}
 use Rattle.matching.specs.declared.condition.Check.{Check}
 use Rattle.matching.specs.declared.condition.Check.the-variants.{Always, Same, InSet, NotInSet, Below, NotBelow}
@@ -13,10 +14,6 @@ use Rattle.matching.specs.declared.condition.Check.the-variants.{Always,
 unfoldable pub check-at : ℕ → Check
 check-at k =
     cond (eqb k 4) Same (cond (eqb k 20) NotInSet (cond (eqb k 21) InSet (cond (eqb k 24) NotBelow (cond (eqb k 25) Below Always))))
-
--- the words from place a up to place b
-abbrev pub part : ℕ → ℕ → List ℕ → List ℕ
-part a b plan = take (b - a) (drop a plan)
 
 -- the words that letter k reaches over
 unfoldable pub letter : List ℕ → List ℕ → List ℕ → ℕ → List ℕ

@@ -1,4 +1,4 @@
--- How a left side's words are matched against a plan's, from the last to the first.
+-- Nobody need believe this: contracts of functions cite it. How a left side's words are matched against a plan's, from the last to the first.
 use Prim.Native.Nat.{ℕ, _+_, _-_}
 use mathlib.Core.Bool.{Bool, true, false, cond}
 use mathlib.Core.List.{List, [], _∷_, _++_}

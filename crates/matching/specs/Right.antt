@@ -1,4 +1,4 @@
--- How a right side's words are written out.
+-- Nobody need believe this: contracts of functions cite it. How a right side's words are written out.
 use Prim.Native.Nat.{ℕ, _+_, _-_, _≤_, _<_}
 use mathlib.Core.Path.{_≡_}
 use mathlib.Core.Bool.{cond}
@@ -6,19 +6,9 @@ use mathlib.Core.List.{List, [], _∷_, _++_}
 use lib.ListN.{length, getD}
 use lib.Dec.{ltb}
 use Rattle.tables.specs.Tables.{Tables, communication}
-use Rattle.plans.specs.Word.{binary-word}
-use Rattle.laws.specs.Laws.{Pattern, any, any-action, δ, entry, node, θ, ∂, law-at}
+use Rattle.laws.specs.Laws.{law-at}
+use Rattle.laws.specs.Postfix.{forth}
 use Rattle.matching.specs.Check.{letter, word-from}
-
--- a right side's words, the first first: letter k is 96 + k, ∂ is letter 5, its set, and the table entry is 102
-unfoldable pub forth : Pattern → List ℕ
-forth (any k) = (96 + k) ∷ []
-forth (any-action k) = (96 + k) ∷ []
-forth δ = 0 ∷ []
-forth entry = 102 ∷ []
-forth (node o p q) = forth p ++ (forth q ++ (binary-word o ∷ []))
-forth (θ p) = forth p ++ (70 ∷ [])
-forth (∂ p) = forth p ++ (101 ∷ [])
 
 -- what one word of it comes to: itself, what a letter reaches over in the plan, or the entry c
 unfoldable pub spelled-one : ℕ → List ℕ → List ℕ → List ℕ → ℕ → List ℕ

@@ -1,4 +1,4 @@
--- Words that laws can be tried on. (01, "Plans".)
+-- Nobody need believe this: contracts of functions cite it. Words that laws can be tried on. (01, "Plans".)
 use Prim.Native.Nat.{ℕ, _≤_, _<_}
 use mathlib.Core.Path.{_≡_}
 use mathlib.Core.List.{List, []}
@@ -6,6 +6,7 @@ use mathlib.Core.Option.{some}
 use lib.ListN.{length, getD}
 use Rattle.plans.specs.Term.{Term, read}
 use Rattle.plans.specs.Start.{start-of}
+use Rattle.areas.specs.Area.{most-words}
 
 -- the starts of the subplans at all places of a plan
 abbrev pub Right-starts : ℕ → List ℕ → List ℕ → Type 0
@@ -20,7 +21,7 @@ pub record Readable (n : ℕ) (plan : List ℕ) : Type 0 where
 pub record Ready (n : ℕ) (plan starts : List ℕ) : Type 0 where
   pub few : n ≤ 31
   pub some-word : 1 ≤ length plan
-  pub not-many : length plan ≤ 16384
+  pub not-many : length plan ≤ most-words
   pub readable : Readable n plan
   pub enough : length plan ≤ length starts
   pub right : Right-starts n plan starts

@@ -2,7 +2,7 @@
 ghost use mathlib.Core.Path.{_≡_};
 ghost use Prim.Native.Nat.{_≤_, _<_};
 ghost use lib.ListN.{length};
-ghost use Rattle.laws.specs.Laws.{law-at};
+ghost use Rattle.laws.specs.Laws.{law-at, highest-law};
 ghost use Rattle.matching.specs.Start.{Ready};
 ghost use Rattle.matching.specs.Left.{back, next-of, slot-of, match-words, Matched};
 
@@ -273,7 +273,7 @@ pub fn match_left(
     from: &mut [u16],
     to: &mut [u16],
 ) -> bool
-    requires { ⌜ (1 ≤ law) × (law ≤ 32) ⌝ }
+    requires { ⌜ (1 ≤ law) × (law ≤ highest-law) ⌝ }
     requires { ⌜ Ready n (now plan) (now starts) ⌝ }
     requires { ⌜ (length (now from) ≡ 7) × (length (now to) ≡ 7) ⌝ }
     ensures { λ r. ⌜ _≡_ {A = Matched} (record { ok = r; from = now (from .exit); to = now (to .exit) }) (match-words n (now (plan .entry)) (back (law-at law .lhs)) (length (now (plan .entry))) (now (from .entry)) (now (to .entry))) ⌝ }

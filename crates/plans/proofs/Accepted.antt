@@ -1,7 +1,7 @@
--- A plan is accepted exactly where its words are those of one term and are no more than 16,384.
+-- A plan is accepted exactly where its words are those of one term and are no more than 16,384; the test for basic plans then goes by that term.
 use Prim.Native.Nat.{ℕ, suc, _-_, _≤_}
 use native.Mathlib.Omega.{arith}
-use mathlib.Core.Path.{_≡_, refl}
+use mathlib.Core.Path.{_≡_, refl, sym, _∙_, subst}
 use mathlib.Core.Bool.{Bool, true, false, cond, _||_}
 use mathlib.Core.List.{List, [], _∷_, _++_}
 use mathlib.Core.Logic.{_↔_}
@@ -22,9 +22,13 @@ use Rattle.plans.specs.declared.Word.{Word}
 use Rattle.plans.specs.Word.{binary-word, unary-word, operands-of}
 use Rattle.plans.specs.Term.{Term, act, un, bin, words, Over, push, read, and-then, sole, term-of}
 use Rattle.plans.specs.Judging.{no-word?, on-turn, refusal-from, words-refusal, plan-refusal}
+use Rattle.plans.specs.Basic.{basic?, basic-words?}
+use Rattle.plans.specs.Accepted.{AcceptedPlan, BasicPlan}
 use Rattle.plans.proofs.Options.{never}
 use Rattle.plans.proofs.Words.{Spelled, is-action, is-one, is-two, is-none, spelled, operands-action, operands-unary, operands-binary}
 use Rattle.plans.proofs.Reading.{term-words, term-said}
+use Rattle.plans.proofs.Basic.{basic?-iff}
+use Rattle.areas.specs.Area.{most-words}
 
 -- the depth is the number of terms that wait
 data Pushed : Option (List Term) → Turn → Type 0 where
@@ -83,22 +87,22 @@ module _ (n : ℕ) (few : n ≤ 31) where
       go (short k) f r = never (r .1)
 
   -- what 11 leaves
-  judged-within : (ws : List ℕ) → words-refusal n ws ≡ none → (length ws ≤ 16384) × (refusal-from n 0 0 ws ≡ none)
+  judged-within : (ws : List ℕ) → words-refusal n ws ≡ none → (length ws ≤ most-words) × (refusal-from n 0 0 ws ≡ none)
   unfolding words-refusal
-  judged-within ws = go (eqb (length ws) 0) (ltb 16384 (length ws)) refl
+  judged-within ws = go (eqb (length ws) 0) (ltb most-words (length ws)) refl
     where
-      go : (a b : Bool) → ltb 16384 (length ws) ≡ b → cond (a || b) (refuse 11 Nowhere) (refusal-from n 0 0 ws) ≡ none → (length ws ≤ 16384) × (refusal-from n 0 0 ws ≡ none)
+      go : (a b : Bool) → ltb most-words (length ws) ≡ b → cond (a || b) (refuse 11 Nowhere) (refusal-from n 0 0 ws) ≡ none → (length ws ≤ most-words) × (refusal-from n 0 0 ws ≡ none)
       go true b q e = absurd (refused 11 Nowhere e)
       go false true q e = absurd (refused 11 Nowhere e)
-      go false false q e = (ltb-false 16384 (length ws) q, e)
+      go false false q e = (ltb-false most-words (length ws) q, e)
 
   pub accepted-term : (ws : List ℕ) → words-refusal n ws ≡ none → (u : Term) × (term-of n ws ≡ some u)
   unfolding term-of
   accepted-term ws e = accepted-reads 0 ws [] (judged-within ws e .1)
 
-  pub term-accepted : (ws : List ℕ) (u : Term) → term-of n ws ≡ some u → 1 ≤ length ws → length ws ≤ 16384 → words-refusal n ws ≡ none
+  pub term-accepted : (ws : List ℕ) (u : Term) → term-of n ws ≡ some u → 1 ≤ length ws → length ws ≤ most-words → words-refusal n ws ≡ none
   unfolding words-refusal term-of
-  term-accepted ws u e low high = rw (ne-eqb (length ws) 0 (λ q. omega arith), le-ltb 16384 (length ws) high) (reads-accepted 0 ws [] (u, e))
+  term-accepted ws u e low high = rw (ne-eqb (length ws) 0 (λ q. omega arith), le-ltb most-words (length ws) high) (reads-accepted 0 ws [] (u, e))
 
 pub words-some : (u : Term) → 1 ≤ length (words u)
 unfolding words
@@ -106,20 +110,20 @@ words-some (act a) = omega arith
 words-some (un o x) = rw (length-append (words x) (unary-word o ∷ [])) (omega arith)
 words-some (bin o x y) = rw (length-append (words x) (words y ++ (binary-word o ∷ []))) (omega (arith, words-some x))
 
-pub accepted-length : (n : ℕ) → n ≤ 31 → (ws : List ℕ) → words-refusal n ws ≡ none → length ws ≤ 16384
+pub accepted-length : (n : ℕ) → n ≤ 31 → (ws : List ℕ) → words-refusal n ws ≡ none → length ws ≤ most-words
 accepted-length n few ws e = judged-within n few ws e .0
 
 pub accepted-iff-term : (n : ℕ) → n ≤ 31 → (ws : List ℕ)
-    → (words-refusal n ws ≡ none) ↔ ((u : Term) × (words u ≡ ws) × Over n u × (length ws ≤ 16384))
+    → (words-refusal n ws ≡ none) ↔ ((u : Term) × (words u ≡ ws) × Over n u × (length ws ≤ most-words))
 accepted-iff-term n few ws = (to, from)
   where
-    to : words-refusal n ws ≡ none → (u : Term) × (words u ≡ ws) × Over n u × (length ws ≤ 16384)
+    to : words-refusal n ws ≡ none → (u : Term) × (words u ≡ ws) × Over n u × (length ws ≤ most-words)
     to e =
         let t = accepted-term n few ws e in
         let s = term-said n ws (t .0) (t .1) in
         (t .0, s .0, s .1, accepted-length n few ws e)
 
-    from : ((u : Term) × (words u ≡ ws) × Over n u × (length ws ≤ 16384)) → words-refusal n ws ≡ none
+    from : ((u : Term) × (words u ≡ ws) × Over n u × (length ws ≤ most-words)) → words-refusal n ws ≡ none
     from r =
         let u = r .0 in
         let t : term-of n ws ≡ some u = rw (← r .1) (term-words n few u (r .2)) in
@@ -132,3 +136,45 @@ plan-accepted-iff t ws = none-of-both (table-refusal t) (words-refusal (actions 
 
 pub few-actions : (t : Tables) → table-refusal t ≡ none → actions t ≤ 31
 few-actions t e = accepted-iff-lawful t .0 e .well-formed .few-actions
+
+-- what is refused nothing is what the definition says
+pub accepted-plan : (t : Tables) (ws : List ℕ) → (plan-refusal t ws ≡ none) ↔ AcceptedPlan t ws
+accepted-plan t ws = (to, from)
+  where
+    to : plan-refusal t ws ≡ none → AcceptedPlan t ws
+    to e =
+        let h = plan-accepted-iff t ws .0 e in
+        let u = accepted-iff-term (actions t) (few-actions t (h .0)) ws .0 (h .1) in
+        record {
+          lawful = accepted-iff-lawful t .0 (h .0);
+          term = u .0;
+          spelled = u .1;
+          over = u .2;
+          some-words = subst (λ l. 1 ≤ length l) (u .1) (words-some (u .0));
+          few-words = u .3;
+        }
+
+    from : AcceptedPlan t ws → plan-refusal t ws ≡ none
+    from p =
+        let h = accepted-iff-lawful t .1 (p .lawful) in
+        plan-accepted-iff t ws .1 (h, accepted-iff-term (actions t) (few-actions t h) ws .1 (p .term, p .spelled, p .over, p .few-words))
+
+-- the term of an accepted plan is the one that its words read as
+pub accepted-reads-as : (t : Tables) (ws : List ℕ) (p : AcceptedPlan t ws) → term-of (actions t) ws ≡ some (p .term)
+accepted-reads-as t ws p = rw (← p .spelled) (term-words (actions t) (p .lawful .well-formed .few-actions) (p .term) (p .over))
+
+basic-by-term : (t : Tables) (ws : List ℕ) (u : Term) → term-of (actions t) ws ≡ some u → basic-words? (actions t) ws ≡ basic? u
+unfolding basic-words?
+basic-by-term t ws u e = rw e
+
+-- an accepted plan is basic exactly where the test says so
+pub basic-plan : (t : Tables) (ws : List ℕ) → ((plan-refusal t ws ≡ none) × (basic-words? (actions t) ws ≡ true)) ↔ BasicPlan t ws
+basic-plan t ws = (to, λ b. (accepted-plan t ws .1 (b .plan), tested (b .plan) ∙ basic?-iff (b .plan .term) .1 (b .basic)))
+  where
+    tested : (p : AcceptedPlan t ws) → basic-words? (actions t) ws ≡ basic? (p .term)
+    tested p = basic-by-term t ws (p .term) (accepted-reads-as t ws p)
+
+    to : (plan-refusal t ws ≡ none) × (basic-words? (actions t) ws ≡ true) → BasicPlan t ws
+    to e =
+        let p = accepted-plan t ws .0 (e .0) in
+        record { plan = p; basic = basic?-iff (p .term) .0 (sym (tested p) ∙ e .1) }

@@ -9,3 +9,5 @@ pub mod Stack
 mod Scanning
 pub mod Orders
 pub mod Start
+pub mod Starts
+pub mod Standing

@@ -20,6 +20,7 @@ use Rattle.plans.specs.Basic.{dead-stop?, live-action?, sum-plan?, basic
 use Rattle.plans.specs.Kinds.{action-kind, joined-kind}
 use Rattle.plans.specs.Stack.{stacked}
 use Rattle.plans.proofs.Stack.{stacked-onto, stacked-push}
+use Rattle.areas.specs.Area.{most-words}
 
 -- the kind of a term
 unfoldable pub kind : Term → ℕ
@@ -140,9 +141,9 @@ module _ (ks : List ℕ) where
 -- Scanning the words of a plan from place i on, with the kinds of d subplans in an array, answers for the plan.
 pub record Scanned (n : ℕ) (plan ks : List ℕ) (d i : ℕ) : Type 0 where
   pub inside : i ≤ length plan
-  pub short : length plan ≤ 16384
+  pub short : length plan ≤ most-words
   pub low : d ≤ i
-  pub room : length ks ≡ 16384
+  pub room : length ks ≡ most-words
   pub same : scan n (drop i plan) (stacked ks d) ≡ basic-words? n plan
 
 module _ {n : ℕ} {plan ks : List ℕ} {d i : ℕ} (s : Scanned n plan ks d i) (more : i < length plan) where
@@ -195,6 +196,6 @@ module _ {n : ℕ} {plan ks : List ℕ} {d i : ℕ} (s : Scanned n plan ks d i) 
   unfolding scan
   ends-other f = sym (rw (drop-of-length-le plan over) (not-sole ks d f)) ∙ s .same
 
-pub scan-starts : (n : ℕ) (plan ks : List ℕ) → length plan ≤ 16384 → length ks ≡ 16384 → Scanned n plan ks 0 0
+pub scan-starts : (n : ℕ) (plan ks : List ℕ) → length plan ≤ most-words → length ks ≡ most-words → Scanned n plan ks 0 0
 unfolding stacked
 scan-starts n plan ks h e = record { inside = omega arith; short = h; low = omega arith; room = e; same = scan-basic n plan }

@@ -11,7 +11,7 @@ use Rattle.plans.specs.declared.Unary.{Unary}
 use Rattle.plans.specs.declared.Unary.the-variants.{Priority, Encapsulation}
 use Rattle.plans.specs.declared.Word.{Word}
 use Rattle.plans.specs.declared.Word.the-variants.{Action, One, Two, NoWord}
-use Rattle.plans.specs.Word.{binary-word, unary-word, sign-of, word-of, operands-of}
+use Rattle.plans.specs.Word.{binary-word, unary-word, sign-of, word-of, operands-of, takes-two?}
 use Rattle.plans.specs.Term.{Set-number}
 
 -- the bytes of the operators
@@ -90,6 +90,15 @@ operands-binary Merge = refl
 operands-binary LeftMerge = refl
 operands-binary CommunicationMerge = refl
 operands-binary Unless = refl
+
+-- and whether it takes two
+pub two-unary : (o : Unary) → Set-number o → takes-two? (unary-word o) ≡ false
+unfolding takes-two?
+two-unary o k = rw (operands-unary o k)
+
+pub two-binary : (o : Binary) → takes-two? (binary-word o) ≡ true
+unfolding takes-two?
+two-binary o = rw (operands-binary o)
 
 -- what a byte that is read as an operator or an action must be
 pub data Spelled (n w : ℕ) : Word → Type 0 where

@@ -15,6 +15,7 @@ use Rattle.plans.specs.declared.Word.the-variants.{Action, One, Two, NoW
 use Rattle.plans.specs.declared.Turn.{Turn}
 use Rattle.plans.specs.declared.Turn.the-variants.{Depth, Stop}
 use Rattle.plans.specs.Word.{word-of, operands-of}
+use Rattle.areas.specs.Area.{most-words}
 
 abbrev pub no-word? : Word → Bool
 no-word? (Action a) = false
@@ -40,7 +41,7 @@ refusal-from n p d (w ∷ ws) = on-turn (turn-of n w d) (λ e. refusal-from n (s
 -- "11 plan empty or above 16,384"
 unfoldable pub words-refusal : ℕ → List ℕ → Option Refusal
 unfolding refusal-from
-words-refusal n ws = cond (eqb (length ws) 0 || ltb 16384 (length ws)) (refuse 11 Nowhere) (refusal-from n 0 0 ws)
+words-refusal n ws = cond (eqb (length ws) 0 || ltb most-words (length ws)) (refuse 11 Nowhere) (refusal-from n 0 0 ws)
 
 -- "Every call handed tables or a plan … judges the tables (1 to 8), then the plan (11 to 14), before its other refusals."
 unfoldable pub plan-refusal : Tables → List ℕ → Option Refusal

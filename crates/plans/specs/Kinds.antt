@@ -1,4 +1,4 @@
--- The kinds by which one scan of a plan's words tells whether it is basic; contracts of private functions cite them.
+-- Nobody need believe this: contracts of functions cite it. The kinds by which one scan of a plan's words tells whether it is basic.
 -- 0 is not basic, 1 dead stop, 2 an action other than 0, 3 any other sum-plan.
 use Prim.Native.Nat.{ℕ}
 use mathlib.Core.Bool.{cond, _&&_}

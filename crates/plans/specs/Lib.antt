@@ -3,6 +3,7 @@ pub mod Term
 pub mod Place
 pub mod Judging
 pub mod Basic
+pub mod Accepted
 pub mod Kinds
 pub mod Start
 pub mod Stack

@@ -20,3 +20,7 @@ subterm n ws p = cond (ltb p (length ws)) (and-then (read n (take (suc p) ws) []
 unfoldable pub replace : List ℕ → ℕ → Term → Term → List ℕ
 unfolding words
 replace ws p t u = take (suc p - length (words t)) ws ++ (words u ++ drop (suc p) ws)
+
+-- the words from place a up to place b
+abbrev pub part : ℕ → ℕ → List ℕ → List ℕ
+part a b plan = take (b - a) (drop a plan)

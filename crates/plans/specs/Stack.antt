@@ -1,4 +1,4 @@
--- Terms that wait for an operator, and an array used as a stack; contracts of functions that read a plan word by word cite them.
+-- Nobody need believe this: contracts of functions cite it. Terms that wait for an operator, and an array used as a stack.
 use Prim.Native.Nat.{ℕ, zero, suc}
 use mathlib.Core.List.{List, [], _∷_, _++_}
 use lib.ListN.{getD}

@@ -1,6 +1,6 @@
 -- The words of plans. (01, "Plans".)
 use Prim.Native.Nat.{ℕ, _+_, _-_}
-use mathlib.Core.Bool.{cond, _&&_}
+use mathlib.Core.Bool.{Bool, cond, _&&_}
 use lib.Dec.{eqb, leb}
 use Rattle.plans.specs.declared.Binary.{Binary}
 use Rattle.plans.specs.declared.Binary.the-variants.{Choice, Sequence, Merge, LeftMerge, CommunicationMerge, Unless}
@@ -42,3 +42,7 @@ word-of n w = cond (leb w n) (Action w) (sign-of w)
 -- "how many operands each byte takes: 0 for 0 to 31, 2 or 1 for the signs, 3 for any other byte"
 unfoldable pub operands-of : ℕ → ℕ
 operands-of w = cond (leb w 31) 0 (cond (leb 64 w && leb w 69) 2 (cond (eqb w 70) 1 (cond (leb 80 w && leb w 87) 1 3)))
+
+-- whether a byte is a sign of two operands
+unfoldable pub takes-two? : ℕ → Bool
+takes-two? w = eqb (operands-of w) 2

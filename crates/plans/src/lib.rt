@@ -1,11 +1,14 @@
 // Plans: how their words are read and judged, which plans are basic, and how many orders a basic plan allows.
 ghost use mathlib.Core.Path.{_≡_};
-ghost use Prim.Native.Nat.{_≤_};
+ghost use Prim.Native.Nat.{_≤_, _<_};
 ghost use lib.ListN.{length};
 ghost use Rattle.refusals.specs.Refusal.{judged};
-ghost use Rattle.plans.specs.Word.{operands-of, word-of};
+ghost use Rattle.plans.specs.Word.{operands-of, takes-two?, word-of};
 ghost use Rattle.plans.specs.Judging.{plan-refusal, words-refusal};
 ghost use Rattle.plans.specs.Basic.{basic-words?, orders-of};
+ghost use Rattle.plans.specs.Start.{start-next, Operands};
+ghost use Rattle.areas.specs.Area.{most-words};
+use areas::MOST_WORDS;
 use refusals::Judgement;
 use refusals::Place;
 use tables::actions_of;
@@ -14,9 +17,6 @@ use tables::judge_tables;
 mod scan;
 mod table;
 mod turns;
-
-// "A plan is 1 to 16,384 bytes".
-const MOST_WORDS: usize = 16384;
 
 // The word of choice, +.
 const CHOICE: u8 = 64;
@@ -56,6 +56,16 @@ pub fn operands(byte: u8) -> u8
     ensures whole { λ r. ⌜ r ≡ operands-of byte ⌝ }
 {
     table::OPERANDS[byte as usize]
+}
+
+// Whether a byte is a sign of two operands.
+pub fn takes_two(word: u8) -> bool
+    ensures whole { λ r. ⌜ r ≡ takes-two? word ⌝ }
+{
+    match word {
+        64..=69 => true,
+        _ => false,
+    }
 }
 
 // What a byte is under n actions.
@@ -127,7 +137,7 @@ pub fn judge_plan(tables: &[u8], plan: &[u8]) -> Judgement
 
 // Whether a plan's words are a basic plan under n actions: one kind for each subplan that waits.
 pub fn basic_words(n: u8, plan: &[u8]) -> bool
-    requires { ⌜ (n ≤ 31) × (length (now plan) ≤ 16384) ⌝ }
+    requires { ⌜ (n ≤ 31) × (length (now plan) ≤ most-words) ⌝ }
     ensures whole { λ r. ⌜ r ≡ basic-words? n (now (plan .entry)) ⌝ }
 {
     let mut kinds = [scan::NOT_BASIC; MOST_WORDS];
@@ -167,7 +177,7 @@ pub fn basic_words(n: u8, plan: &[u8]) -> bool
 
 // The orders that a plan allows: one more than its signs of choice where it is basic, else 0.
 pub fn count_orders(n: u8, plan: &[u8]) -> usize
-    requires { ⌜ (n ≤ 31) × (length (now plan) ≤ 16384) ⌝ }
+    requires { ⌜ (n ≤ 31) × (length (now plan) ≤ most-words) ⌝ }
     ensures whole { λ r. ⌜ r ≡ orders-of n (now (plan .entry)) ⌝ }
 {
     if !basic_words(n, plan) {
@@ -183,4 +193,22 @@ pub fn count_orders(n: u8, plan: &[u8]) -> usize
         }
     }
     orders
+}
+
+// Where the subplan starts whose last word is the next one. (A byte that is no word cannot come; it would start at itself.)
+pub fn start_of_next(n: u8, word: u8, starts: &[u16], read: usize) -> u16
+    requires { ⌜ (n ≤ 31) × (read < most-words) × (length (now starts) ≡ most-words) ⌝ }
+    requires { ⌜ Operands (word-of n word) (now starts) read ⌝ }
+    ensures { λ r. ⌜ r ≡ start-next (word-of n word) (now (starts .entry)) read ⌝ }
+{
+    let kind = classify(n, word);
+    match kind {
+        Word::Action(_) => read as u16,
+        Word::One(_) => starts[read - 1],
+        Word::Two(_) => {
+            let right = starts[read - 1] as usize;
+            starts[right - 1]
+        }
+        Word::NoWord => read as u16,
+    }
 }

@@ -3,6 +3,7 @@ ghost use mathlib.Core.Path.{_≡_};
 ghost use Prim.Native.Nat.{_≤_};
 ghost use Rattle.refusals.specs.Refusal.{judged, refuse};
 ghost use Rattle.plans.specs.Judging.{turn-of};
+ghost use Rattle.areas.specs.Area.{most-words};
 use super::Turn;
 use super::Word;
 use super::classify;
@@ -13,7 +14,7 @@ use refusals::Refusal;
 
 // A byte read where so many subplans wait: "12 no word, 13 too few operands", 12 before 13.
 pub fn take_word(n: u8, byte: u8, depth: usize) -> Turn
-    requires { ⌜ (n ≤ 31) × (depth ≤ 16384) ⌝ }
+    requires { ⌜ (n ≤ 31) × (depth ≤ most-words) ⌝ }
     ensures whole { λ r. ⌜ r ≡ turn-of n byte depth ⌝ }
 {
     let word = classify(n, byte);

@@ -1,9 +1,7 @@
 -- A step made at the last word read: the plan under work is then the next plan, and the plan before it can be put together again.
 use Prim.Native.Nat.{ℕ, _+_, _-_, _≤_, _<_}
 use native.Mathlib.Omega.{arith}
-use native.Mathlib.Numerals.{add-one}
-use mathlib.Core.Path.{_≡_, refl, sym, _∙_, subst}
-use mathlib.Core.Bool.{not}
+use mathlib.Core.Path.{_≡_, refl, _∙_}
 use mathlib.Core.List.{List, _++_}
 use mathlib.Core.Option.{none, some}
 use lib.ListN.{length, take, drop, length-append, length-drop}
@@ -15,14 +13,15 @@ use Rattle.plans.specs.Start.{start-of}
 use Rattle.laws.specs.Step.{step}
 use Rattle.laws.proofs.Stepping.{step-alike}
 use Rattle.plans.proofs.Start.{start-below}
+use Rattle.areas.specs.Reached.{even?}
 use Rattle.buffer.specs.declared.State.{State}
-use Rattle.buffer.specs.Areas.{even?}
-use Rattle.buffer.specs.Buffer.{whole, moved, before}
+use Rattle.buffer.specs.Buffer.{whole}
 use Rattle.buffer.specs.Moves.{Gap}
-use Rattle.buffer.proofs.Whole.{held-gap, whole-length, step-whole, held-step, before-step, undoable-step}
-use Rattle.steps.specs.Working.{plan-in, Working, Kept, Next, start-here, side-here, next-here, PutIn, put-in}
-use Rattle.steps.specs.declared.Made.the-variants.{Step}
-use Rattle.steps.proofs.Prefixes.{put-last}
+use Rattle.buffer.proofs.Whole.{held-gap, whole-length, step-whole, held-step, before-step, kept-step}
+use Rattle.steps.specs.Working.{plan-in, Working, Next, start-here, side-here, next-here, PutIn, put-in}
+use Rattle.steps.specs.declared.Replaced.the-variants.{Step}
+use Rattle.rewritings.proofs.Prefixes.{put-last}
+use Rattle.areas.specs.Area.{most-words}
 
 -- the plan by its words read and its words behind
 pub plan-split : (left right : List ℕ) (s : State) → plan-in left right s ≡ take (s .read) left ++ drop (s .rest) right
@@ -36,7 +35,7 @@ module _ (t : Tables) (left starts right : List ℕ) (s : State) (work : Working
   pub read-long : length (take (s .read) left) ≡ s .read
   read-long = length-take-le (s .read) left (omega (arith, gap .left-long, gap .apart, gap .rest-in))
 
-  pub plan-long : length (plan-in left right s) ≡ s .read + (16384 - s .rest)
+  pub plan-long : length (plan-in left right s) ≡ s .read + (most-words - s .rest)
   plan-long = whole-length left right (s .read) (s .rest) gap
 
   -- where the subplan at the last word read starts
@@ -55,7 +54,7 @@ module _ (t : Tables) (left starts right : List ℕ) (s : State) (work : Working
 
   -- how many words it has
   pub next-long : (v : List ℕ) → 1 ≤ s .read
-      → length (take (start-here starts s) left ++ (v ++ drop (s .rest) right)) ≡ start-here starts s + (length v + (16384 - s .rest))
+      → length (take (start-here starts s) left ++ (v ++ drop (s .rest) right)) ≡ start-here starts s + (length v + (most-words - s .rest))
   next-long v h =
       let st = start-here starts s in
       rw (
@@ -66,28 +65,15 @@ module _ (t : Tables) (left starts right : List ℕ) (s : State) (work : Working
         gap .right-long,
       )
 
--- the states differ in where the gap stands alone
-pub kept-moved : (c : ℕ) (plan old : List ℕ) (s s′ : State) → s′ ≡ moved s (s′ .read) (s′ .rest) → Kept c plan old s → Kept c plan old s′
-unfolding before
-kept-moved c plan old s s′ e k = subst (Kept c plan old) (sym e) (record { undoable = record { old-long = k .undoable .old-long; old-in = k .undoable .old-in; new-in = k .undoable .new-in; before-fits = k .undoable .before-fits }; short = k .short; parity = k .parity })
-
-pub before-moved : (plan old : List ℕ) (s s′ : State) → s′ ≡ moved s (s′ .read) (s′ .rest) → before s′ plan old ≡ before s plan old
-unfolding before
-before-moved plan old s s′ e = subst (λ (z : State). before z plan old ≡ before s plan old) (sym e) refl
-
 -- the step made
-module _ (t : Tables) (ok : Lawful t) (law c : ℕ) (left starts right old f g right′ old′ : List ℕ) (s : State) (most : c ≤ 16384) (work : Working t left starts right s)
-    (fits-c : length (plan-in left right s) ≤ c) (parity : s .even ≡ even? (s .steps)) (read-some : 1 ≤ s .read) (w : List ℕ)
+module _ (t : Tables) (ok : Lawful t) (law c : ℕ) (left starts right old f g right′ old′ : List ℕ) (s : State) (most : c ≤ most-words) (work : Working t left starts right s)
+    (fits-c : length (plan-in left right s) ≤ c) (parity : s .made .even ≡ even? (s .made .steps)) (read-some : 1 ≤ s .read) (w : List ℕ)
     (is-next : next-here t law left starts right f g s ≡ w) (k p : ℕ) (stepping : step t k p (plan-in left right s) ≡ some w) where
-  accepted-next : length w ≤ 16384 → words-refusal (actions t) w ≡ none
+  accepted-next : length w ≤ most-words → words-refusal (actions t) w ≡ none
   accepted-next l = step-alike t ok k p (plan-in left right s) w (work .accepted) stepping .1 l
 
-  even-next : not (s .even) ≡ even? (s .steps + 1)
-  unfolding even?
-  even-next = rw (add-one (s .steps), parity)
-
   pub made-next : (s′ : State) → PutIn t law c left starts right old f g right′ old′ s (Step s′) → Next t c left right left starts right′ old′ s s′ w
-  made-next s′ (put-in short-next written kept-words old-long) =
+  made-next s′ (put-in short-next written kept-words) =
       let st = start-here starts s in
       let sd = side-here t law left f g s in
       let h = gap t left starts right s work in
@@ -101,13 +87,8 @@ module _ (t : Tables) (ok : Lawful t) (law c : ℕ) (left starts right old f g r
               held = rw written (held-step left right sd (s .read) (s .rest) st h le room (actions t) starts (work .held));
               accepted = rw e (accepted-next (omega arith));
             };
-        kept =
-            record {
-              undoable = rw (← is-next) (undoable-step left right sd (s .read) (s .rest) st h le room s old′ (s .rest - length sd) kept-words c old-long fits-c);
-              short = lw;
-              parity = even-next;
-            };
+        kept = rw (← is-next) (kept-step left right sd (s .read) (s .rest) st h le room (s .made) old′ kept-words c fits-c short-next parity);
         next-plan = e;
-        next-before = rw (← is-next) (before-step left right sd (s .read) (s .rest) st h le room s old′ (s .rest - length sd) kept-words);
+        next-before = rw (← is-next) (before-step left right sd (s .read) (s .rest) st h le room (s .made) old′ kept-words);
         next-steps = refl;
       }

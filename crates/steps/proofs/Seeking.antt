@@ -1,18 +1,19 @@
 -- The gap moved word by word: the plan under work stays what it was, and the rest of the state too.
 use Prim.Native.Nat.{ℕ, _+_, _-_, _≤_, _<_}
 use native.Mathlib.Omega.{arith}
-use mathlib.Core.Path.{_≡_, refl, sym, _∙_, ap, subst}
+use mathlib.Core.Path.{_≡_, refl, sym, _∙_, ap}
 use mathlib.Core.List.{List}
 use mathlib.Core.Option.{none}
 use lib.ListN.{length}
 use Rattle.tables.specs.Tables.{Tables, actions}
 use Rattle.plans.specs.Judging.{words-refusal}
 use Rattle.buffer.specs.declared.State.{State}
-use Rattle.buffer.specs.Buffer.{whole, Held, moved}
+use Rattle.buffer.specs.Buffer.{whole, Held}
 use Rattle.buffer.specs.Moves.{Shifted}
 use Rattle.buffer.proofs.Whole.{shifted-plan, shifted-held}
 use Rattle.steps.specs.Working.{plan-in, Working, Same}
 use Rattle.steps.proofs.Making.{plan-long}
+use Rattle.areas.specs.Area.{most-words}
 
 pub same-start : (t : Tables) (left starts right : List ℕ) (s : State) → Working t left starts right s → Same t left starts right left starts right s s
 same-start t left starts right s w = record { working = w; same-plan = refl; same-step = refl }
@@ -20,24 +21,19 @@ same-start t left starts right s w = record { working = w; same-plan = refl; sam
 -- one word more or fewer is read
 module _ (t : Tables) (left starts right left₁ starts₁ right₁ : List ℕ) (s g : State) (m : Same t left starts right left₁ starts₁ right₁ s g)
     (left₂ starts₂ right₂ : List ℕ) (r : State) (read rest : ℕ) (f : Shifted left₁ right₁ left₂ right₂ g r read rest) where
-  same-moved : r ≡ moved s (r .read) (r .rest)
-  same-moved =
-      subst (λ (z : State). z ≡ moved s (z .read) (z .rest)) (sym (f .state))
-      (subst (λ (z : State). moved z read rest ≡ moved s read rest) (sym (m .same-step)) refl)
-
   pub same-on : Held (actions t) left₂ starts₂ right₂ read rest → Same t left starts right left₂ starts₂ right₂ s r
   same-on h =
       record {
         working = record { held = shifted-held f h; accepted = rw (shifted-plan f) (m .working .accepted) };
         same-plan = shifted-plan f ∙ m .same-plan;
-        same-step = same-moved;
+        same-step = ap (λ (z : State). z .made) (f .state) ∙ m .same-step;
       }
 
 -- the words at a place before the end are not all read: one is left
 pub rest-left : (t : Tables) (left starts right left₁ starts₁ right₁ : List ℕ) (s g : State) → Same t left starts right left₁ starts₁ right₁ s g
-    → (place : ℕ) → place < length (plan-in left right s) → g .read ≤ place → g .rest < 16384
+    → (place : ℕ) → place < length (plan-in left right s) → g .read ≤ place → g .rest < most-words
 rest-left t left starts right left₁ starts₁ right₁ s g m place h l =
-    let e : g .read + (16384 - g .rest) ≡ length (plan-in left right s) = sym (plan-long t left₁ starts₁ right₁ g (m .working)) ∙ ap length (m .same-plan) in
+    let e : g .read + (most-words - g .rest) ≡ length (plan-in left right s) = sym (plan-long t left₁ starts₁ right₁ g (m .working)) ∙ ap length (m .same-plan) in
     omega (arith, e, h, l)
 
 -- the number of actions as a value

@@ -1,27 +1,63 @@
 -- A law tried at a place: what one step of a rewriting answers, by what the law does at the last word read.
-use Prim.Native.Nat.{ℕ, _+_, _-_, _≤_}
+use Prim.Native.Nat.{ℕ, _+_, _-_, _≤_, _<_}
 use native.Mathlib.Omega.{arith}
 use mathlib.Core.Path.{_≡_, refl, sym, _∙_, ap, subst}
 use mathlib.Core.Bool.{Bool, true, false, not}
 use mathlib.Core.List.{List, _++_}
 use mathlib.Core.Option.{Option, none, some}
-use lib.ListN.{length, take, drop}
+use lib.ListN.{length, getD, take, drop}
+use lib.Seq.{length-take-le, getD-take}
 use Rattle.tables.specs.Tables.{Tables, actions}
 use Rattle.tables.specs.Lawful.{Lawful}
 use Rattle.plans.specs.Term.{Term, words}
+use Rattle.plans.specs.Start.{start-of}
+use Rattle.plans.proofs.Place.{stack-at}
+use Rattle.plans.proofs.Accepted.{accepted-term}
 use Rattle.laws.specs.Step.{step}
 use Rattle.laws.proofs.Stepping.{step-past}
+use Rattle.matching.specs.Start.{Readable, Ready}
 use Rattle.matching.specs.Right.{spelled-law}
-use Rattle.matching.specs.Choice.{law-term, Tried, fails, fits}
+use Rattle.rewritings.specs.Roots.{law-term}
+use Rattle.matching.specs.Tried.{Tried, fails, fits}
+use Rattle.areas.specs.declared.StepState.{StepState}
+use Rattle.areas.specs.Storing.{Kept}
 use Rattle.buffer.specs.declared.State.{State}
-use Rattle.steps.specs.Working.{plan-in, Working, Kept, Same, Next, next-here, PutIn, too-long, StepOf}
+use Rattle.buffer.proofs.Whole.{take-whole}
+use Rattle.steps.specs.Working.{plan-in, Working, Same, Next, next-here, PutIn, too-long, StepOf}
 use Rattle.steps.specs.Working as working
-use Rattle.steps.specs.declared.Made.{Made}
-use Rattle.steps.specs.declared.Made.the-variants.{Step, TooLong}
-use Rattle.steps.specs.declared.Stepping.the-variants.{Done, Fails, Long}
-use Rattle.steps.proofs.Prefixes.{last-fails, last-fits}
-use Rattle.steps.proofs.Making.{plan-split, read-long, next-is, kept-moved, made-next}
+use Rattle.steps.specs.declared.Replaced.{Replaced}
+use Rattle.steps.specs.declared.Replaced.the-variants.{Step, TooLong}
+use Rattle.steps.specs.declared.Attempt.the-variants.{Done, Fails, Long}
+use Rattle.rewritings.proofs.Prefixes.{last-fails, last-fits}
+use Rattle.steps.proofs.Making.{plan-split, gap, read-long, next-is, made-next}
 use Rattle.steps.proofs.Seeking.{same-start}
+use Rattle.areas.specs.Area.{most-words}
+
+-- the words read of a plan under work are words that laws can be tried on
+module _ (t : Tables) (n : ℕ) (count : n ≡ actions t) (few : n ≤ 31) (left starts right : List ℕ) (s : State) (work : Working t left starts right s) where
+  readable : Readable (actions t) (take (s .read) left)
+  readable =
+      let u = accepted-term (actions t) (rw (← count) few) (plan-in left right s) (work .accepted) in
+      let r = stack-at (actions t) (plan-in left right s) (u .0) (u .1) (s .read) in
+      record { waiting = r .0; reads = rw (take-whole left right (s .read) (s .rest) (gap t left starts right s work)) at (r .1) }
+
+  starts-of-read : length (take (s .read) starts) ≡ s .read
+  starts-of-read = length-take-le (s .read) starts (omega (arith, work .held .starts-long, work .held .apart, work .held .rest-in))
+
+  pub ready : 1 ≤ s .read → Ready n (take (s .read) left) (take (s .read) starts)
+  ready h =
+      rw count
+      (record {
+        few = rw (← count) few;
+        some-word = omega (arith, read-long t left starts right s work);
+        not-many = omega (arith, read-long t left starts right s work, work .held .apart, work .held .rest-in);
+        readable = readable;
+        enough = omega (arith, read-long t left starts right s work, starts-of-read);
+        right = λ k l. right-start k (rw (read-long t left starts right s work) at l);
+      })
+    where
+      right-start : (k : ℕ) → k < s .read → getD (take (s .read) starts) k 0 ≡ start-of (actions t) (take (s .read) left) k
+      right-start k l = getD-take (s .read) starts k 0 l ∙ work .held .starts-right k l
 
 -- what a law that was tried gives, where the code asks whether it does not fit
 tried-fails : {t : Tables} {k : ℕ} {plan f g : List ℕ} {o : Option Term} {b : Bool} → Tried t k plan f g o b → not b ≡ true → o ≡ none
@@ -75,20 +111,20 @@ module _ (t : Tables) (law place c : ℕ) (left₀ starts₀ right₀ old₀ : L
       stepping : step t law place (plan-in left₀ right₀ s₀) ≡ some (next-here t law left starts right f g s)
       stepping = let v = tried-fits tried fitting in fitted f g (v .0) (v .1) (v .2)
 
-      pub answer-long : (right′ old′ : List ℕ) (r : Made) → r ≡ TooLong → PutIn t law c left starts right old₀ f g right′ old′ s r
+      pub answer-long : (right′ old′ : List ℕ) (r : Replaced) → r ≡ TooLong → PutIn t law c left starts right old₀ f g right′ old′ s r
           → StepOf t law place c left₀ starts₀ right₀ old₀ left starts right′ old′ s₀ (Long s)
       answer-long right′ old′ r q p = go (subst (PutIn t law c left starts right old₀ f g right′ old′ s) q p)
         where
           go : PutIn t law c left starts right old₀ f g right′ old′ s TooLong → StepOf t law place c left₀ starts₀ right₀ old₀ left starts right′ old′ s₀ (Long s)
           go (too-long h e i) = working.long s (next-here t law left starts right f g s) stepping h (rw e m) i
 
-      pub answer-done : (right′ old′ : List ℕ) (r : Made) (s′ : State) → r ≡ Step s′ → PutIn t law c left starts right old₀ f g right′ old′ s r
-          → Lawful t → c ≤ 16384 → Kept c (plan-in left₀ right₀ s₀) old₀ s₀ → StepOf t law place c left₀ starts₀ right₀ old₀ left starts right′ old′ s₀ (Done s′)
+      pub answer-done : (right′ old′ : List ℕ) (r : Replaced) (s′ : State) → r ≡ Step s′ → PutIn t law c left starts right old₀ f g right′ old′ s r
+          → Lawful t → c ≤ most-words → Kept c (plan-in left₀ right₀ s₀) old₀ (s₀ .made) → StepOf t law place c left₀ starts₀ right₀ old₀ left starts right′ old′ s₀ (Done s′)
       answer-done right′ old′ r s′ q p ok most k =
           let w = next-here t law left starts right f g s in
           let d : Next t c left right left starts right′ old′ s s′ w =
           made-next t ok law c left starts right old₀ f g right′ old′ s most (m .working) (rw (m .same-plan) (k .short))
-          (kept-moved c (plan-in left₀ right₀ s₀) old₀ s₀ s (m .same-step) k .parity) some-read w refl law place (rw (m .same-plan) stepping) s′
+          (rw (m .same-step) (k .parity)) some-read w refl law place (rw (m .same-plan) stepping) s′
           (subst (PutIn t law c left starts right old₀ f g right′ old′ s) q p) in
           working.done s′ w stepping (d .kept .short)
           (record {
@@ -96,5 +132,5 @@ module _ (t : Tables) (law place c : ℕ) (left₀ starts₀ right₀ old₀ : L
             kept = d .kept;
             next-plan = d .next-plan;
             next-before = d .next-before ∙ m .same-plan;
-            next-steps = d .next-steps ∙ ap (λ (z : State). z .steps + 1) (m .same-step);
+            next-steps = d .next-steps ∙ ap (λ (z : StepState). z .steps + 1) (m .same-step);
           })

@@ -1,4 +1,4 @@
--- A plan under work between two steps, and what the functions on it answer.
+-- Nobody need believe this: contracts of functions cite it. A plan under work between two steps, and what the functions on it answer.
 use Prim.Native.Nat.{ℕ, _+_, _-_, _≤_, _<_}
 use mathlib.Core.Path.{_≡_}
 use mathlib.Core.List.{List, _++_}
@@ -6,20 +6,16 @@ use mathlib.Core.Option.{none, some}
 use lib.ListN.{length, getD, take, drop}
 use Rattle.areas.specs.Area.{overwrite}
 use Rattle.tables.specs.Tables.{Tables, actions}
-use Rattle.plans.specs.Term.{Term, words}
 use Rattle.plans.specs.Judging.{words-refusal}
 use Rattle.laws.specs.Step.{step}
-use Rattle.matching.specs.Right.{spelled-law, Reaches}
+use Rattle.matching.specs.Right.{spelled-law}
+use Rattle.areas.specs.Storing.{before, Kept}
 use Rattle.buffer.specs.declared.State.{State}
-use Rattle.buffer.specs.Areas.{even?}
-use Rattle.buffer.specs.Buffer.{whole, Held, moved, stepped, before, Undoable}
-use Rattle.steps.specs.Choice.{next-step}
-use Rattle.steps.specs.declared.Made.{Made}
-use Rattle.steps.specs.declared.Made.the-variants.{Step, TooLong}
-use Rattle.steps.specs.declared.Scanned.{Scanned}
-use Rattle.steps.specs.declared.Scanned.the-variants.{At, Nowhere}
-use Rattle.steps.specs.declared.Stepping.{Stepping}
-use Rattle.steps.specs.declared.Stepping.the-variants.{Done, Fails, Long}
+use Rattle.buffer.specs.Buffer.{whole, Held, stepped}
+use Rattle.steps.specs.declared.Replaced.{Replaced}
+use Rattle.steps.specs.declared.Replaced.the-variants.{Step, TooLong}
+use Rattle.steps.specs.declared.Attempt.{Attempt}
+use Rattle.steps.specs.declared.Attempt.the-variants.{Done, Fails, Long}
 
 -- the plan under work
 abbrev pub plan-in : List ℕ → List ℕ → State → List ℕ
@@ -30,25 +26,19 @@ pub record Working (t : Tables) (left starts right : List ℕ) (s : State) : Typ
   pub held : Held (actions t) left starts right (s .read) (s .rest)
   pub accepted : words-refusal (actions t) (plan-in left right s) ≡ none
 
--- it has at most c words, and so had the plan before it, which can be put together again
-pub record Kept (c : ℕ) (plan old : List ℕ) (s : State) : Type 0 where
-  pub undoable : Undoable s plan old c
-  pub short : length plan ≤ c
-  pub parity : s .even ≡ even? (s .steps)
-
--- the same plan with the gap elsewhere, and nothing else changed of the state
+-- the same plan with the gap elsewhere, and no step made
 pub record Same (t : Tables) (left starts right left′ starts′ right′ : List ℕ) (s s′ : State) : Type 0 where
   pub working : Working t left′ starts′ right′ s′
   pub same-plan : plan-in left′ right′ s′ ≡ plan-in left right s
-  pub same-step : s′ ≡ moved s (s′ .read) (s′ .rest)
+  pub same-step : s′ .made ≡ s .made
 
 -- a step was made: the plan is now w, and the one before it what it was
 pub record Next (t : Tables) (c : ℕ) (left right : List ℕ) (left′ starts′ right′ old′ : List ℕ) (s s′ : State) (w : List ℕ) : Type 0 where
   pub working : Working t left′ starts′ right′ s′
-  pub kept : Kept c w old′ s′
+  pub kept : Kept c w old′ (s′ .made)
   pub next-plan : plan-in left′ right′ s′ ≡ w
-  pub next-before : before s′ w old′ ≡ plan-in left right s
-  pub next-steps : s′ .steps ≡ s .steps + 1
+  pub next-before : before (s′ .made) w old′ ≡ plan-in left right s
+  pub next-steps : s′ .made .steps ≡ s .made .steps + 1
 
 -- where the subplan at the last word read starts, and the right side of a law put in its place
 abbrev pub start-here : List ℕ → State → ℕ
@@ -61,34 +51,16 @@ abbrev pub next-here : Tables → ℕ → List ℕ → List ℕ → List ℕ →
 next-here t law left starts right f g s = take (start-here starts s) left ++ (side-here t law left f g s ++ drop (s .rest) right)
 
 -- a right side put in at the last word read, unless the plan would be too long
-pub data PutIn (t : Tables) (law c : ℕ) (left starts right old f g right′ old′ : List ℕ) (s : State) : Made → Type 0 where
+pub data PutIn (t : Tables) (law c : ℕ) (left starts right old f g right′ old′ : List ℕ) (s : State) : Replaced → Type 0 where
   too-long : c < length (next-here t law left starts right f g s) → right′ ≡ right → old′ ≡ old → PutIn t law c left starts right old f g right′ old′ s TooLong
   put-in : length (next-here t law left starts right f g s) ≤ c
       → right′ ≡ overwrite right (s .rest - length (side-here t law left f g s)) (side-here t law left f g s)
       → take (s .read - start-here starts s) old′ ≡ take (s .read - start-here starts s) (drop (start-here starts s) left)
-      → length old′ ≡ 16384
       → PutIn t law c left starts right old f g right′ old′ s
       (Step (stepped s (start-here starts s) (s .read - start-here starts s) (length (side-here t law left f g s)) (s .rest - length (side-here t law left f g s))))
 
--- a law that fits at the last word read: its letters' bounds, and the term that it gives
-pub record Fitting (t : Tables) (law : ℕ) (left starts f g : List ℕ) (s : State) (v : Term) : Type 0 where
-  pub some-read : 1 ≤ s .read
-  pub low : 1 ≤ law
-  pub high : law ≤ 32
-  pub reaches : Reaches (take (s .read) left) f g
-  pub spells : side-here t law left f g s ≡ words v
-
--- the unfolding's next step: there is none, or it is at the last word read, before which no law fits
-pub data Scan (t : Tables) (left starts right left′ starts′ f g : List ℕ) (s : State) : Scanned → Type 0 where
-  nowhere : (s′ : State) → Same t left starts right left′ starts′ right s s′ → next-step t (plan-in left right s) ≡ none
-      → Scan t left starts right left′ starts′ f g s (Nowhere s′)
-  found : (law : ℕ) (s′ : State) (v : Term) → Same t left starts right left′ starts′ right s s′ → Fitting t law left′ starts′ f g s′ v
-      → next-step t (plan-in left right s) ≡ some (record { law = law; place = s′ .read - 1; plan = next-here t law left′ starts′ right f g s′ })
-      → next-step t (take (s′ .read - 1) left′) ≡ none
-      → Scan t left starts right left′ starts′ f g s (At law s′)
-
 -- one step of a rewriting: law k at place p is made, or does not fit, or gives too long a plan
-pub data StepOf (t : Tables) (k p c : ℕ) (left starts right old left′ starts′ right′ old′ : List ℕ) (s : State) : Stepping → Type 0 where
+pub data StepOf (t : Tables) (k p c : ℕ) (left starts right old left′ starts′ right′ old′ : List ℕ) (s : State) : Attempt → Type 0 where
   done : (s′ : State) (w : List ℕ) → step t k p (plan-in left right s) ≡ some w → length w ≤ c
       → Next t c left right left′ starts′ right′ old′ s s′ w → StepOf t k p c left starts right old left′ starts′ right′ old′ s (Done s′)
   fails : (s′ : State) → step t k p (plan-in left right s) ≡ none → Same t left starts right left′ starts′ right′ s s′ → old′ ≡ old

@@ -1,30 +1,25 @@
-// Steps on a plan under work: a law's right side put in, the unfolding's next step found, a step made at a place.
-use buffer::MOST_WORDS;
+// Steps on a plan under work: a law's right side put in, and a step made at a place.
+use areas::MOST_WORDS;
 use buffer::State;
 ghost use mathlib.Core.Path.{_≡_};
-ghost use mathlib.Core.Option.{none};
-ghost use Prim.Native.Nat.{_+_, _-_, _≤_, _<_, min};
+ghost use Prim.Native.Nat.{_+_, _≤_, _<_};
 ghost use lib.ListN.{length, take};
 ghost use Rattle.tables.specs.Tables.{actions};
 ghost use Rattle.tables.specs.Lawful.{Lawful};
 ghost use Rattle.matching.specs.Right.{Reaches};
-ghost use Rattle.steps.specs.Choice.{next-step};
-ghost use Rattle.steps.specs.Working.{plan-in, Working, Kept, Same, PutIn, Scan, StepOf};
+ghost use Rattle.areas.specs.Storing.{Kept};
+ghost use Rattle.steps.specs.Working.{plan-in, Working, Same, PutIn, StepOf};
+ghost use Rattle.areas.specs.Area.{most-words};
+ghost use Rattle.laws.specs.Laws.{highest-law};
 
-// A right side put in: the state after the step, or that the next plan would be too long.
-pub enum Made {
+// A subplan replaced by a law's right side: the state after the step, or that the next plan would be too long.
+pub enum Replaced {
     Step(State),
     TooLong,
 }
 
-// Where the next step of an unfolding is: a law at the last word read, or nowhere.
-pub enum Scanned {
-    At(u8, State),
-    Nowhere(State),
-}
-
-// One step of a rewriting: made; or the law does not fit at the place; or the next plan would be too long.
-pub enum Stepping {
+// One step of a rewriting: made; or the law does not fit at the place; or the next plan would be too long. With the state then.
+pub enum Attempt {
     Done(State),
     Fails(State),
     Long(State),
@@ -43,9 +38,9 @@ pub fn put_in(
     to: &[u16],
     state: State,
     limit: usize,
-) -> Made
-    requires { ⌜ (1 ≤ law) × (law ≤ 32) × (limit ≤ 16384) × (state .steps < 18446744073709551615) ⌝ }
-    requires { ⌜ (1 ≤ state .read) × Working (now tables) (now left) (now starts) (now right) state × Reaches (take (state .read) (now left)) (now from) (now to) × (length (now old) ≡ 16384) ⌝ }
+) -> Replaced
+    requires { ⌜ (1 ≤ law) × (law ≤ highest-law) × (limit ≤ most-words) × (state .made .steps < 18446744073709551615) ⌝ }
+    requires { ⌜ (1 ≤ state .read) × Working (now tables) (now left) (now starts) (now right) state × Reaches (take (state .read) (now left)) (now from) (now to) × (length (now old) ≡ most-words) ⌝ }
     ensures { λ r. ⌜ PutIn (now (tables .entry)) law limit (now (left .entry)) (now (starts .entry)) (now (right .entry)) (now (old .entry)) (now (from .entry)) (now (to .entry)) (now (right .exit)) (now (old .exit)) state r ⌝ }
 {
     let read = state.read;
@@ -54,46 +49,12 @@ pub fn put_in(
     let size = matching::right_len(law, from, to);
     let gone = read - start;
     if limit < start + size + (MOST_WORDS - rest) {
-        return Made::TooLong;
+        return Replaced::TooLong;
     }
     areas::copy_in(&left[start..read], old, 0);
     let front = rest - size;
     matching::put_side(law, tables, &left[..read], from, to, right, front);
-    Made::Step(state.after_step(start, gone, size, front))
-}
-
-// Moves on until one of laws 5 to 32 fits at the last word read. Nothing fits at the words read before.
-pub fn scan(
-    tables: &[u8],
-    n: u8,
-    left: &mut [u8],
-    starts: &mut [u16],
-    right: &[u8],
-    from: &mut [u16],
-    to: &mut [u16],
-    state: State,
-) -> Scanned
-    requires { ⌜ (n ≡ actions (now tables)) × (n ≤ 31) × Working (now tables) (now left) (now starts) (now right) state ⌝ }
-    requires { ⌜ Reaches (take (state .read) (now left)) (now from) (now to) × (next-step (now tables) (take (state .read) (now left)) ≡ none) ⌝ }
-    ensures { λ r. ⌜ Scan (now (tables .entry)) (now (left .entry)) (now (starts .entry)) (now (right .entry)) (now (left .exit)) (now (starts .exit)) (now (from .exit)) (now (to .exit)) state r ⌝ }
-{
-    let mut gap = state;
-    while gap.rest < MOST_WORDS {
-        gap = buffer::forward(n, &mut *left, &mut *starts, right, gap);
-        let read = gap.read;
-        let law = matching::first_law(
-            tables,
-            n,
-            &left[..read],
-            &starts[..read],
-            &mut *from,
-            &mut *to,
-        );
-        if law != 0 {
-            return Scanned::At(law, gap);
-        }
-    }
-    Scanned::Nowhere(gap)
+    Replaced::Step(state.after_step(start, gone, size, front))
 }
 
 // Moves the gap forward until the word at a place is the last one read.
@@ -148,15 +109,15 @@ pub fn make_step(
     old: &mut [u8],
     state: State,
     limit: usize,
-) -> Stepping
-    requires { ⌜ (n ≡ actions (now tables)) × Lawful (now tables) × (1 ≤ law) × (law ≤ 32) ⌝ }
-    requires { ⌜ (limit ≤ 16384) × (state .steps < 18446744073709551615) × (length (now old) ≡ 16384) ⌝ }
-    requires { ⌜ Working (now tables) (now left) (now starts) (now right) state × Kept limit (plan-in (now left) (now right) state) (now old) state ⌝ }
+) -> Attempt
+    requires { ⌜ (n ≡ actions (now tables)) × Lawful (now tables) × (1 ≤ law) × (law ≤ highest-law) ⌝ }
+    requires { ⌜ (limit ≤ most-words) × (state .made .steps < 18446744073709551615) × (length (now old) ≡ most-words) ⌝ }
+    requires { ⌜ Working (now tables) (now left) (now starts) (now right) state × Kept limit (plan-in (now left) (now right) state) (now old) (state .made) ⌝ }
     ensures { λ r. ⌜ StepOf (now (tables .entry)) law place limit (now (left .entry)) (now (starts .entry)) (now (right .entry)) (now (old .entry)) (now (left .exit)) (now (starts .exit)) (now (right .exit)) (now (old .exit)) state r ⌝ }
 {
     let size = state.read + (MOST_WORDS - state.rest);
     if size <= place {
-        return Stepping::Fails(state);
+        return Attempt::Fails(state);
     }
     let there = seek(
         n,
@@ -179,7 +140,7 @@ pub fn make_step(
         &mut from,
         &mut to,
     ) {
-        return Stepping::Fails(there);
+        return Attempt::Fails(there);
     }
     match put_in(
         law,
@@ -193,8 +154,8 @@ pub fn make_step(
         there,
         limit,
     ) {
-        Made::Step(next) => Stepping::Done(next),
-        Made::TooLong => Stepping::Long(there),
+        Replaced::Step(next) => Attempt::Done(next),
+        Replaced::TooLong => Attempt::Long(there),
     }
 }
 
@@ -216,18 +177,4 @@ pub fn seek(
     } else {
         back_to(tables, &*left, &*starts, right, state, place)
     }
-}
-
-// The smaller of two numbers.
-fn smaller(a: usize, b: usize) -> usize
-    ensures { λ r. ⌜ r ≡ min a b ⌝ }
-{
-    if a < b { a } else { b }
-}
-
-// C: the least of both areas' lengths and 16,384.
-pub fn least(a: usize, b: usize) -> usize
-    ensures { λ r. ⌜ r ≡ min (min a b) 16384 ⌝ }
-{
-    smaller(smaller(a, b), MOST_WORDS)
 }

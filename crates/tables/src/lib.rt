@@ -5,29 +5,53 @@ use refusals::Refusal;
 ghost use mathlib.Core.Path.{_≡_};
 ghost use mathlib.Core.Bool.{_||_};
 ghost use mathlib.Core.Logic.{_↔_};
-ghost use Prim.Native.Nat.{_≤_, _+_, _-_, _*_};
+ghost use Prim.Native.Nat.{_≤_};
 ghost use lib.ListN.{getD};
-ghost use lib.Dec.{ltb};
+ghost use lib.Dec.{eqb, ltb};
 ghost use Rattle.refusals.specs.declared.Judgement.the-variants.{Accepted};
 ghost use Rattle.refusals.specs.Refusal.{judged};
-ghost use Rattle.tables.specs.Tables.{actions, communication, below, blocked};
-ghost use Rattle.tables.specs.Judging.{entry-right, byte-right, null-right, swap-right, group-right, order-right, first-byte, first-triple, content-refusal, table-refusal};
+ghost use Rattle.tables.specs.Tables.{most-actions, sets-at, priority-at, entry-of, marked, actions, communication, below, blocked};
+ghost use Rattle.tables.specs.Judging.{entry-right, null-right, group-right, order-right, first-entry, first-triple, first-not-above, count-refusal, priority-entries, shared-entries, communication-refusal, order-refusal, shared-refusal, content-refusal, table-refusal};
 ghost use Rattle.tables.specs.Lawful.{Lawful};
-ghost use Rattle.tables.specs.Condition.{byte-meets, triple-meets, first-not-above, count-refusal, law-refusal, order-refusal};
+ghost use Rattle.tables.specs.Condition.{entry-meets, triple-meets, found-refusal};
 
 // The length of tables, and the most actions that they can have.
 const LENGTH: usize = 2305;
 
 const MOST_ACTIONS: u8 = 31;
 
-// Where the parts begin, and how many entries a row of them has.
+// Where the parts begin.
 const COMMUNICATION: usize = 1;
 
 const PRIORITY: usize = 1025;
 
 const SETS: usize = 2049;
 
-const ROW: usize = 32;
+// How many entries a row of a part has, and how many rows of actions and of sets there are.
+const ROW: u8 = 32;
+
+const SET_COUNT: u8 = 8;
+
+// What is asked of each entry of a part: refusal 3's condition, by the part; C3 and C1, of refusals 4 and 5.
+enum EntryRule {
+    Communication,
+    Priority,
+    Sets,
+    Null,
+    Swap,
+}
+
+// What is asked of each triple of actions: C2, of refusal 6; the order's conditions, of refusal 8.
+enum TripleRule {
+    Group,
+    Order,
+}
+
+// What a search over triples of actions yields.
+enum Found {
+    At(u8, u8, u8),
+    Nothing,
+}
 
 // Byte i of the tables, and 0 past their end.
 fn byte_at(tables: &[u8], i: usize) -> u8
@@ -44,11 +68,22 @@ pub fn actions_of(tables: &[u8]) -> u8
 }
 
 // The entry of row and column in the part that begins at a byte.
-fn entry_at(tables: &[u8], part: usize, row: u8, column: u8) -> u8
-    requires { ⌜ part ≤ 2049 ⌝ }
-    ensures whole { λ r. ⌜ r ≡ getD (now (tables .entry)) (part + (32 * row + column)) 0 ⌝ }
+fn entry_at(tables: &[u8], start: usize, row: u8, column: u8) -> u8
+    requires { ⌜ start ≤ sets-at ⌝ }
+    ensures whole { λ r. ⌜ r ≡ entry-of (now (tables .entry)) start row column ⌝ }
 {
-    byte_at(tables, part + (ROW * (row as usize) + (column as usize)))
+    byte_at(
+        tables,
+        start + ((ROW as usize) * (row as usize) + (column as usize)),
+    )
+}
+
+// Whether the entry of row and column in the part that begins at a byte is 1.
+fn is_marked(tables: &[u8], start: usize, row: u8, column: u8) -> bool
+    requires { ⌜ start ≤ sets-at ⌝ }
+    ensures whole { λ r. ⌜ r ≡ marked (now (tables .entry)) start row column ⌝ }
+{
+    entry_at(tables, start, row, column) == 1
 }
 
 // a|b.
@@ -62,21 +97,28 @@ pub fn communication_of(tables: &[u8], a: u8, b: u8) -> u8
 pub fn is_below(tables: &[u8], a: u8, b: u8) -> bool
     ensures whole { λ r. ⌜ r ≡ below (now (tables .entry)) a b ⌝ }
 {
-    entry_at(tables, PRIORITY, a, b) == 1
+    is_marked(tables, PRIORITY, a, b)
 }
 
 // Whether action a is in a blocked set.
 pub fn is_blocked(tables: &[u8], set: u8, a: u8) -> bool
     ensures whole { λ r. ⌜ r ≡ blocked (now (tables .entry)) set a ⌝ }
 {
-    entry_at(tables, SETS, set, a) == 1
+    is_marked(tables, SETS, set, a)
 }
 
 // Whether a row or a column of actions exceeds n.
-fn outside(n: u8, row: usize, column: usize) -> bool
+fn outside(n: u8, row: u8, column: u8) -> bool
     ensures whole { λ r. ⌜ r ≡ (ltb n row || ltb n column) ⌝ }
 {
-    (n as usize) < row || (n as usize) < column
+    n < row || n < column
+}
+
+// Whether no set may have an action: it is 0 or exceeds n.
+fn in_no_set(n: u8, a: u8) -> bool
+    ensures whole { λ r. ⌜ r ≡ (eqb a 0 || ltb n a) ⌝ }
+{
+    a == 0 || n < a
 }
 
 // Whether an entry is at most m, and 0 where it must be.
@@ -86,145 +128,144 @@ fn entry_right(m: u8, null: bool, v: u8) -> bool
     if null { v == 0 } else { v <= m }
 }
 
-// Whether byte i is an entry in range, zero where a row or column of actions exceeds n, and action 0 in no set.
-fn byte_right(tables: &[u8], i: usize) -> bool
-    requires { ⌜ 1 ≤ i ⌝ }
-    ensures whole { λ r. ⌜ r ≡ byte-right (now (tables .entry)) i ⌝ }
+// Whether an entry obeys C3: δ|a = a|δ = δ.
+fn null_right(tables: &[u8], start: usize, a: u8, b: u8) -> bool
+    requires { ⌜ start ≤ sets-at ⌝ }
+    ensures whole { λ r. ⌜ r ≡ null-right (entry-of (now (tables .entry)) start) a b ⌝ }
 {
-    let n = actions_of(tables);
-    let v = byte_at(tables, i);
-    if i < PRIORITY {
-        let at = i - COMMUNICATION;
-        return entry_right(n, outside(n, at / ROW, at % ROW), v);
-    }
-    if i < SETS {
-        let at = i - PRIORITY;
-        return entry_right(1, outside(n, at / ROW, at % ROW), v);
-    }
-    let a = (i - SETS) % ROW;
-    if a == 0 {
-        return entry_right(1, true, v);
-    }
-    entry_right(1, (n as usize) < a, v)
-}
-
-// Whether byte i of communication obeys C3: δ|a = a|δ = δ.
-fn null_right(tables: &[u8], i: usize) -> bool
-    requires { ⌜ 1 ≤ i ⌝ }
-    ensures whole { λ r. ⌜ r ≡ null-right (now (tables .entry)) i ⌝ }
-{
-    let at = i - COMMUNICATION;
-    if at / ROW == 0 || at % ROW == 0 {
-        return byte_at(tables, i) == 0;
+    if a == 0 || b == 0 {
+        return entry_at(tables, start, a, b) == 0;
     }
     true
-}
-
-// Whether byte i of communication obeys C1: a|b = b|a.
-fn swap_right(tables: &[u8], i: usize) -> bool
-    requires { ⌜ 1 ≤ i ⌝ }
-    ensures whole { λ r. ⌜ r ≡ swap-right (now (tables .entry)) i ⌝ }
-{
-    let at = i - COMMUNICATION;
-    byte_at(tables, i) == byte_at(tables, COMMUNICATION + (ROW * (at % ROW) + at / ROW))
 }
 
 // Whether a triple obeys C2: (a|b)|c = a|(b|c).
-fn group_right(tables: &[u8], a: u8, b: u8, c: u8) -> bool
-    ensures whole { λ r. ⌜ r ≡ group-right (now (tables .entry)) a b c ⌝ }
+fn group_right(tables: &[u8], start: usize, a: u8, b: u8, c: u8) -> bool
+    requires { ⌜ start ≤ sets-at ⌝ }
+    ensures whole { λ r. ⌜ r ≡ group-right (entry-of (now (tables .entry)) start) a b c ⌝ }
 {
-    let left = communication_of(tables, communication_of(tables, a, b), c);
-    left == communication_of(tables, a, communication_of(tables, b, c))
+    let left = entry_at(tables, start, entry_at(tables, start, a, b), c);
+    left == entry_at(tables, start, a, entry_at(tables, start, b, c))
 }
 
 // Whether a triple obeys the order's conditions: not a<a; not a<b and b<a; a<c where a<b and b<c.
-fn order_right(tables: &[u8], a: u8, b: u8, c: u8) -> bool
-    ensures whole { λ r. ⌜ r ≡ order-right (now (tables .entry)) a b c ⌝ }
+fn order_right(tables: &[u8], start: usize, a: u8, b: u8, c: u8) -> bool
+    requires { ⌜ start ≤ sets-at ⌝ }
+    ensures whole { λ r. ⌜ r ≡ order-right (marked (now (tables .entry)) start) a b c ⌝ }
 {
-    if is_below(tables, a, a) {
+    if is_marked(tables, start, a, a) {
         return false;
     }
-    if is_below(tables, a, b) {
-        if is_below(tables, b, a) {
+    if is_marked(tables, start, a, b) {
+        if is_marked(tables, start, b, a) {
             return false;
         }
-        if is_below(tables, b, c) {
-            return is_below(tables, a, c);
+        if is_marked(tables, start, b, c) {
+            return is_marked(tables, start, a, c);
         }
     }
     true
 }
 
-// Whether byte i meets the condition of refusal 3, 4 or 5.
-fn byte_meets(number: u8, tables: &[u8], i: usize) -> bool
-    requires { ⌜ 1 ≤ i ⌝ }
-    ensures whole { λ r. ⌜ r ≡ byte-meets number (now (tables .entry)) i ⌝ }
+// Whether an entry of the part that begins at a byte meets a condition, with n actions.
+fn entry_meets(rule: EntryRule, tables: &[u8], start: usize, n: u8, row: u8, column: u8) -> bool
+    requires { ⌜ start ≤ sets-at ⌝ }
+    ensures whole { λ r. ⌜ r ≡ entry-meets rule (now (tables .entry)) start n row column ⌝ }
 {
-    if number == 3 {
-        return byte_right(tables, i);
+    let v = entry_at(tables, start, row, column);
+    match rule {
+        EntryRule::Communication => entry_right(n, outside(n, row, column), v),
+        EntryRule::Priority => entry_right(1, outside(n, row, column), v),
+        EntryRule::Sets => entry_right(1, in_no_set(n, column), v),
+        EntryRule::Null => null_right(tables, start, row, column),
+        EntryRule::Swap => v == entry_at(tables, start, column, row),
     }
-    if number == 4 {
-        return null_right(tables, i);
-    }
-    swap_right(tables, i)
 }
 
-// Whether a triple meets the condition of refusal 6 or 8.
-fn triple_meets(number: u8, tables: &[u8], a: u8, b: u8, c: u8) -> bool
-    ensures whole { λ r. ⌜ r ≡ triple-meets number (now (tables .entry)) a b c ⌝ }
+// Whether a triple meets a condition on the part that begins at a byte.
+fn triple_meets(rule: TripleRule, tables: &[u8], start: usize, a: u8, b: u8, c: u8) -> bool
+    requires { ⌜ start ≤ sets-at ⌝ }
+    ensures whole { λ r. ⌜ r ≡ triple-meets rule (now (tables .entry)) start a b c ⌝ }
 {
-    if number == 6 {
-        return group_right(tables, a, b, c);
+    match rule {
+        TripleRule::Group => group_right(tables, start, a, b, c),
+        TripleRule::Order => order_right(tables, start, a, b, c),
     }
-    order_right(tables, a, b, c)
 }
 
-// The first byte before an end that fails the condition of refusal 3, 4 or 5, as that refusal.
-fn first_byte(number: u8, tables: &[u8], end: usize) -> Judgement
-    requires { ⌜ 1 ≤ end ⌝ }
-    ensures whole { λ r. ⌜ r ≡ judged (first-byte number (byte-meets number (now (tables .entry))) 1 (end - 1)) ⌝ }
+// The first entry, row by row, that fails a condition on the part of so many rows that begins at a byte, as refusal `number`.
+fn first_entry(
+    number: u8,
+    rule: EntryRule,
+    tables: &[u8],
+    start: usize,
+    rows: u8,
+    n: u8,
+) -> Judgement
+    requires { ⌜ start ≤ sets-at ⌝ }
+    ensures whole { λ r. ⌜ r ≡ judged (first-entry number (entry-meets rule (now (tables .entry)) start n) start rows) ⌝ }
 {
-    for i in 1..end {
-        if !byte_meets(number, tables, i) {
-            let place = Place::Byte(i);
-            return Judgement::Refused(Refusal { number, place });
+    for row in 0..rows {
+        for column in 0..ROW {
+            if !entry_meets(rule, tables, start, n, row, column) {
+                let place = Place::Byte(
+                    start + ((ROW as usize) * (row as usize) + (column as usize)),
+                );
+                return Judgement::Refused(Refusal { number, place });
+            }
         }
     }
     Judgement::Accepted
 }
 
-// Refusal 7: the first action that 0 is not below.
-fn first_not_above(tables: &[u8], n: u8) -> Judgement
-    ensures whole { λ r. ⌜ r ≡ judged (first-not-above (now (tables .entry)) n) ⌝ }
+// Refusal 7: the first action that 0 is not below, in the priority part that begins at a byte.
+fn first_not_above(tables: &[u8], start: usize, n: u8) -> Judgement
+    requires { ⌜ start ≤ sets-at ⌝ }
+    ensures whole { λ r. ⌜ r ≡ judged (first-not-above (now (tables .entry)) start n) ⌝ }
 {
     for a in 1..=n {
-        if !is_below(tables, 0, a) {
-            let place = Place::Byte(PRIORITY + (a as usize));
+        if !is_marked(tables, start, 0, a) {
+            let place = Place::Byte(start + (a as usize));
             return Judgement::Refused(Refusal { number: 7, place });
         }
     }
     Judgement::Accepted
 }
 
-// The first triple of actions, a slowest, that fails the condition of refusal 6 or 8, as that refusal.
-fn first_triple(number: u8, tables: &[u8], n: u8) -> Judgement
-    requires { ⌜ n ≤ 31 ⌝ }
-    ensures whole { λ r. ⌜ r ≡ judged (first-triple number (triple-meets number (now (tables .entry))) n) ⌝ }
+// A triple that was found is refused as such; where none was, nothing is.
+fn judge_found(number: u8, found: Found) -> Judgement
+    ensures whole { λ r. ⌜ r ≡ judged (found-refusal number found) ⌝ }
+{
+    match found {
+        Found::Nothing => Judgement::Accepted,
+        Found::At(a, b, c) => {
+            let place = Place::Triple(a, b, c);
+            Judgement::Refused(Refusal { number, place })
+        }
+    }
+}
+
+// The first triple of actions, a slowest, that fails a condition on the part that begins at a byte, as refusal `number`.
+fn first_triple(number: u8, rule: TripleRule, tables: &[u8], start: usize, n: u8) -> Judgement
+    requires { ⌜ (start ≤ sets-at) × (n ≤ most-actions) ⌝ }
+    ensures whole { λ r. ⌜ r ≡ judged (first-triple number (triple-meets rule (now (tables .entry)) start) n) ⌝ }
 {
     let end = n + 1;
-    let mut found = Judgement::Accepted;
-    'search: for a in 0..end {
+    let mut a = 0;
+    let found = 'search: loop {
+        if a == end {
+            break 'search Found::Nothing;
+        }
         for b in 0..end {
             for c in 0..end {
-                if !triple_meets(number, tables, a, b, c) {
-                    let place = Place::Triple(a, b, c);
-                    found = Judgement::Refused(Refusal { number, place });
-                    break 'search;
+                if !triple_meets(rule, tables, start, a, b, c) {
+                    break 'search Found::At(a, b, c);
                 }
             }
         }
-    }
-    found
+        a += 1;
+    };
+    judge_found(number, found)
 }
 
 // Refusal 2: n is 0 or too large.
@@ -240,52 +281,74 @@ fn judge_count(n: u8) -> Judgement
     Judgement::Refused(Refusal { number: 2, place })
 }
 
-// Refusals 7 and 8: the priority order.
-fn judge_order(tables: &[u8], n: u8) -> Judgement
-    requires { ⌜ n ≤ 31 ⌝ }
-    ensures whole { λ r. ⌜ r ≡ judged (order-refusal (now (tables .entry)) n) ⌝ }
+// Refusal 3: the entries of communication, priority and sets.
+fn judge_entries(tables: &[u8], n: u8) -> Judgement
+    ensures whole { λ r. ⌜ r ≡ judged (shared-entries (now (tables .entry)) sets-at n (priority-entries (now (tables .entry)) priority-at n)) ⌝ }
 {
-    let least = first_not_above(tables, n);
-    let Judgement::Accepted = least else {
-        return least;
+    let communication = first_entry(3, EntryRule::Communication, tables, COMMUNICATION, ROW, n);
+    let Judgement::Accepted = communication else {
+        return communication;
     };
-    first_triple(8, tables, n)
+    let priority = first_entry(3, EntryRule::Priority, tables, PRIORITY, ROW, n);
+    let Judgement::Accepted = priority else {
+        return priority;
+    };
+    first_entry(3, EntryRule::Sets, tables, SETS, SET_COUNT, n)
 }
 
-// Refusals 4 to 6, the laws of communication, and then those of the order.
-fn judge_laws(tables: &[u8], n: u8) -> Judgement
-    requires { ⌜ n ≤ 31 ⌝ }
-    ensures whole { λ r. ⌜ r ≡ judged (law-refusal (now (tables .entry)) n) ⌝ }
+// Refusals 4 to 6: the laws of communication.
+fn judge_communication(tables: &[u8], n: u8) -> Judgement
+    requires { ⌜ n ≤ most-actions ⌝ }
+    ensures whole { λ r. ⌜ r ≡ judged (communication-refusal (now (tables .entry)) n) ⌝ }
 {
-    let null = first_byte(4, tables, PRIORITY);
+    let null = first_entry(4, EntryRule::Null, tables, COMMUNICATION, ROW, n);
     let Judgement::Accepted = null else {
         return null;
     };
-    let swapped = first_byte(5, tables, PRIORITY);
+    let swapped = first_entry(5, EntryRule::Swap, tables, COMMUNICATION, ROW, n);
     let Judgement::Accepted = swapped else {
         return swapped;
     };
-    let grouped = first_triple(6, tables, n);
-    let Judgement::Accepted = grouped else {
-        return grouped;
-    };
-    judge_order(tables, n)
+    first_triple(6, TripleRule::Group, tables, COMMUNICATION, n)
 }
 
-// Refusals 2 and 3 of tables of the right length, and then those of the laws.
-fn judge_content(tables: &[u8]) -> Judgement
-    ensures whole { λ r. ⌜ r ≡ judged (content-refusal (now (tables .entry))) ⌝ }
+// Refusals 7 and 8: the order of the priority part that begins at a byte.
+fn judge_order(tables: &[u8], start: usize, n: u8) -> Judgement
+    requires { ⌜ (start ≤ sets-at) × (n ≤ most-actions) ⌝ }
+    ensures whole { λ r. ⌜ r ≡ judged (order-refusal (now (tables .entry)) start n) ⌝ }
+{
+    let least = first_not_above(tables, start, n);
+    let Judgement::Accepted = least else {
+        return least;
+    };
+    first_triple(8, TripleRule::Order, tables, start, n)
+}
+
+// Refusals 2 to 6: n, communication and sets, with the entries of priority where they stand.
+fn judge_shared(tables: &[u8]) -> Judgement
+    ensures whole { λ r. ⌜ r ≡ judged (shared-refusal (now (tables .entry)) sets-at (priority-entries (now (tables .entry)) priority-at (actions (now (tables .entry))))) ⌝ }
 {
     let n = actions_of(tables);
     let counted = judge_count(n);
     let Judgement::Accepted = counted else {
         return counted;
     };
-    let entries = first_byte(3, tables, LENGTH);
+    let entries = judge_entries(tables, n);
     let Judgement::Accepted = entries else {
         return entries;
     };
-    judge_laws(tables, n)
+    judge_communication(tables, n)
+}
+
+// Refusals 2 to 8, of tables of the right length.
+fn judge_content(tables: &[u8]) -> Judgement
+    ensures whole { λ r. ⌜ r ≡ judged (content-refusal (now (tables .entry))) ⌝ }
+{
+    let shared = judge_shared(tables);
+    let Judgement::Accepted = shared else {
+        return shared;
+    };
+    judge_order(tables, PRIORITY, actions_of(tables))
 }
 
 // Refusals 1 to 8: whether tables are accepted, and if not why, and where.

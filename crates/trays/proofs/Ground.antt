@@ -15,7 +15,7 @@ use Rattle.plans.specs.Judging.{words-refusal, refusal-from, turn-of}
 use Rattle.plans.specs.Basic.{basic-words?, basic?, sum-plan?, orders-of, orders}
 use Rattle.trays.specs.Trays.{trial, communicate, put-below, block}
 
-trial-accepted : table-refusal trial ≡ none
+pub trial-accepted : table-refusal trial ≡ none
 unfolding table-refusal trial communicate put-below block first-from byte-right null-right swap-right group-right order-right least-right content-refusal entry-right actions communication below
 trial-accepted = refl
 

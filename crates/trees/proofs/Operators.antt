@@ -88,7 +88,7 @@ module _ (γ : ℕ → ℕ → ℕ) where
   merge-same (suc j) (suc k) x y h i =
       merge-ext (merge-to γ j) (merge-to γ k) x y (λ n m l. merge-same j k n m (omega arith) (omega arith))
 
-  -- "x‖y has the branches of x⌊y, y⌊x and x|y" (law 11)
+  -- "x‖y has the branches of x⌊y, y⌊x and x|y" (law 11): as trees, in this order; of a plan's branches it is `merge-branches`
   pub merge-choices : (x y : Tree) → merge-trees γ x y ≡ (left-trees γ x y ⊕ left-trees γ y x) ⊕ communication-trees γ x y
   unfolding merge-trees left-trees communication-trees merge-to
   merge-choices x y =

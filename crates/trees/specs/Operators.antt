@@ -69,7 +69,7 @@ module _ (γ : ℕ → ℕ → ℕ) where
   merge-to (suc k) x y = (left-by (merge-to k) x y ⊕ left-by (merge-to k) y x) ⊕ communication-by (merge-to k) x y
 
   -- x‖y. Each action of the merge takes one from x, from y or from both, so no path of it is longer than both heights together, and
-  -- depth 0 is never reached.
+  -- depth 0 is never reached. Nobody need believe this, `height` and `merge-to`: the branches of x‖y are as quoted (proofs Merge `merge-branches`).
   unfoldable pub merge-trees : Tree → Tree → Tree
   unfolding merge-to height
   merge-trees x y = merge-to (suc (height x + height y)) x y

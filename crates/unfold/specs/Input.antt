@@ -1,4 +1,4 @@
--- What reading standard input answers.
+-- Nobody need believe this: contracts of functions cite it. What reading standard input answers.
 use Prim.Native.Nat.{ℕ, _≤_}
 use Rattle.unfold.specs.declared.Input.{Input}
 use Rattle.unfold.specs.declared.Input.the-variants.{Bytes, Failed}

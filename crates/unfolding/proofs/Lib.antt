@@ -1,6 +1,6 @@
-mod Turning
-mod Walking
+mod Runs
+mod Stepping
 mod Loading
-mod Speeding
+mod OneRound
 mod Running
 mod Settling

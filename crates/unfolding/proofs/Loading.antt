@@ -2,26 +2,24 @@
 use Prim.Native.Nat.{ℕ, _+_, _-_, _≤_, _<_}
 use native.Mathlib.Omega.{arith}
 use mathlib.Core.Path.{_≡_, sym, _∙_, ap}
+use mathlib.Core.Bool.{Bool, true, false}
 use mathlib.Core.List.{List, [], _∷_, _++_, append-assoc, append-nil}
 use lib.ListN.{length, getD, set, take, drop, length-append, length-drop, length-set, drop-of-length-le}
-use lib.Seq.{take-all, getD-take, getD-drop}
-use Rattle.areas.specs.Area.{overwrite}
-use Rattle.areas.proofs.Area.{overwrite-two, drop-overwrite, take-overwrite}
+use lib.Seq.{take-all, getD-drop}
+use Rattle.areas.specs.Area.{overwrite, most-words}
+use Rattle.areas.proofs.Area.{drop-overwrite, take-overwrite}
 use Rattle.plans.specs.declared.Unary.{Unary}
 use Rattle.plans.specs.declared.Unary.the-variants.{Priority, Encapsulation}
-use Rattle.plans.specs.Word.{unary-word}
+use Rattle.plans.specs.Word.{unary-word, takes-two?}
 use Rattle.plans.specs.Term.{Term, words, Set-number}
 use Rattle.plans.specs.Stack.{spell, stacked}
-use Rattle.plans.proofs.Words.{binary-range, unary-low}
+use Rattle.plans.proofs.Words.{binary-range, two-unary, two-binary}
 use Rattle.plans.proofs.Stack.{stacked-length, stacked-push}
-use Rattle.buffer.specs.Buffer.{whole}
-use Rattle.buffer.specs.Moves.{Gap}
-use Rattle.buffer.proofs.Whole.{read-long, whole-length}
 use Rattle.graph.specs.Graph.{Graph, Root, root-one, root-two, Held, ToRead, ToWrite, write-none, write-more, as-word, onto, Nodes, Writable, WroteBack}
-use Rattle.graph.proofs.Reading.{written-holds, to-read-words, to-read-append, to-read-long, held-long, held-to-write, onto-to-write}
+use Rattle.graph.proofs.Reading.{written-holds, to-read-words, to-read-long, held-long, held-to-write, onto-to-write}
 use Rattle.graph.proofs.Terms.{root-same}
 use Rattle.graphsteps.specs.declared.Cut.{Cut}
-use Rattle.unfolding.specs.Walking.{Loaded, PlanOf, WroteOut, RedexOf, RedexIn}
+use Rattle.unfolding.specs.Rounds.{PlanOf, WroteOut, RedexOf, RedexIn}
 
 -- words written up to the end of an area
 pub end-written : (d : List ℕ) (k : ℕ) (v : List ℕ) → k + length v ≡ length d → drop k (overwrite d k v) ≡ v
@@ -30,45 +28,23 @@ end-written d k v h =
 
 -- The plan loaded -----------------------------------------------------------------------------------------------------------------------------
 
-module _ (left right : List ℕ) (read rest : ℕ) (gap : Gap left right read rest) where
-  abbrev behind : List ℕ
-  behind = take (length right - rest) (drop rest right)
+-- the words of a plan put to the end of the entries to read
+pub loaded : (ws todo todo′ : List ℕ) (front : ℕ) → length ws ≡ most-words → length todo ≡ most-words → front ≤ most-words → ((k : ℕ) → getD ws k 0 < 256)
+    → todo′ ≡ overwrite todo front (take (length ws - front) (drop front ws)) → (n : ℕ) (g : Graph) → ToRead n g (drop front todo′) (drop front ws)
+loaded ws todo todo′ front long long′ within bytes e n g =
+    let a : take (length ws - front) (drop front ws) ≡ drop front ws = take-all (length ws - front) (drop front ws) (omega (arith, length-drop front ws)) in
+    let q : drop front todo′ ≡ drop front ws = rw (e, a) (end-written todo front (drop front ws) (omega (arith, length-drop front ws))) in
+    rw q (to-read-words (drop front ws) (λ k h. rw (getD-drop front ws k 0) (bytes (front + k))))
 
-  behind-is : behind ≡ drop rest right
-  behind-is = take-all (length right - rest) (drop rest right) (omega (arith, length-drop rest right))
-
-  words-loaded : (todo : List ℕ) → length todo ≡ 16384
-      → drop (rest - read) (overwrite (overwrite todo (rest - read) (take read left)) rest behind) ≡ whole left right read rest
-  unfolding whole
-  words-loaded todo long =
-      let l = read-long left right read rest gap in
-      let e : rest ≡ rest - read + length (take read left) = omega (arith, gap .apart) in
-      let f : length behind ≡ 16384 - rest = rw behind-is (omega (arith, length-drop rest right, gap .right-long)) in
-      let n : length (take read left ++ behind) ≡ read + (16384 - rest) = omega (arith, length-append (take read left) behind) in
-      let o : overwrite (overwrite todo (rest - read) (take read left)) rest behind ≡ overwrite todo (rest - read) (take read left ++ behind) =
-      ap (λ (z : ℕ). overwrite (overwrite todo (rest - read) (take read left)) z behind) e
-      ∙ overwrite-two todo (rest - read) (take read left) behind (omega (arith, gap .apart, gap .rest-in)) in
-      ap (drop (rest - read)) o
-      ∙ end-written todo (rest - read) (take read left ++ behind) (omega (arith, gap .apart, gap .rest-in))
-      ∙ ap (λ (z : List ℕ). take read left ++ z) behind-is
-
-  pub loaded : (todo todo₁ todo₂ : List ℕ) → length todo ≡ 16384 → ((k : ℕ) → getD left k 0 < 256) → ((k : ℕ) → getD right k 0 < 256)
-      → todo₁ ≡ overwrite todo (rest - read) (take read left) → todo₂ ≡ overwrite todo₁ rest behind
-      → Loaded (whole left right read rest) todo₂ (rest - read)
-  unfolding whole
-  loaded todo todo₁ todo₂ long bytes bytes′ e f =
-      record {
-        to-read = λ n g. rw (f, e, words-loaded todo long)
-            (to-read-append (to-read-words (take read left) (λ k h. rw (getD-take read left k 0 (omega (arith, read-long left right read rest gap))) (bytes k)))
-            (to-read-words (drop rest right) (λ k h. rw (getD-drop rest right k 0) (bytes′ (rest + k)))));
-        long = omega (arith, whole-length left right read rest gap, gap .apart, gap .rest-in);
-      }
+pub load-room : (ws : List ℕ) (front : ℕ) → length ws ≡ most-words → front ≤ most-words → front + length (take (length ws - front) (drop front ws)) ≤ most-words
+load-room ws front long within =
+    rw (take-all (length ws - front) (drop front ws) (omega (arith, length-drop front ws))) (omega (arith, length-drop front ws))
 
 -- A plan written out --------------------------------------------------------------------------------------------------------------------------
 
 module _ (g : Graph) (stack : List ℕ) (height : ℕ) (todo : List ℕ) (rest : ℕ) where
   -- there is room for its entries on the stack
-  pub entries-fit : PlanOf g stack height todo rest → length todo ≡ 16384 → rest ≤ 16384 → height + (length todo - rest) ≤ 16384
+  pub entries-fit : PlanOf g stack height todo rest → length todo ≡ most-words → rest ≤ most-words → height + (length todo - rest) ≤ most-words
   entries-fit p long within =
       omega (arith, held-long (p .held) .0, to-read-long (p .to-read), stacked-length stack height, length-drop rest todo, length-append (spell (p .terms)) (p .behind), p .short)
 
@@ -77,7 +53,7 @@ module _ (g : Graph) (stack : List ℕ) (height : ℕ) (todo : List ℕ) (rest :
   plan-entries stack′ entries n terms behind e few held to-read = rw e (onto-to-write (held-to-write few held) to-read)
 
   pub plan-writable : (stack′ dst : List ℕ) (entries : ℕ) → stacked stack′ entries ≡ onto (drop rest todo) (stacked stack height)
-      → Nodes g → PlanOf g stack height todo rest → length stack′ ≡ 16384 → length dst ≡ 16384 → Writable g stack′ entries dst 16384
+      → Nodes g → PlanOf g stack height todo rest → length stack′ ≡ most-words → length dst ≡ most-words → Writable g stack′ entries dst most-words
   plan-writable stack′ dst entries e nodes p long long′ =
       record {
         n = p .n;
@@ -91,7 +67,7 @@ module _ (g : Graph) (stack : List ℕ) (height : ℕ) (todo : List ℕ) (rest :
       }
 
   pub plan-written : (stack′ dst dst′ : List ℕ) (entries r : ℕ) → stacked stack′ entries ≡ onto (drop rest todo) (stacked stack height)
-      → length dst ≡ 16384 → WroteBack g stack′ entries dst dst′ 16384 r → WroteOut g stack height todo rest dst′ r
+      → length dst ≡ most-words → WroteBack g stack′ entries dst dst′ most-words r → WroteOut g stack height todo rest dst′ r
   plan-written stack′ dst dst′ entries r e long w =
       record {
         wrote = λ n terms behind few held to-read.
@@ -106,10 +82,13 @@ unfolding unary-word
 unary-high Priority k = omega arith
 unary-high (Encapsulation h) k = omega arith
 
+clash : _≡_ {A = Bool} true false → ⊥
+clash q = let z : _≡_ {A = ℕ} 0 1 = cc in omega arith
+
 -- its sign on a stack, on the entries of its operands
 pub data Signed (stack : List ℕ) (word a b : ℕ) (s : List ℕ) (h : ℕ) : Type 0 where
-  sign-one : 70 ≤ word → s ≡ set stack 0 a → h ≡ 1 → Signed stack word a b s h
-  sign-two : word < 70 → s ≡ set (set stack 0 a) 1 b → h ≡ 2 → Signed stack word a b s h
+  sign-one : takes-two? word ≡ false → s ≡ set stack 0 a → h ≡ 1 → Signed stack word a b s h
+  sign-two : takes-two? word ≡ true → s ≡ set (set stack 0 a) 1 b → h ≡ 2 → Signed stack word a b s h
 
 module _ (stack : List ℕ) (long : 2 < length stack) where
   one-entry : (a : ℕ) → stacked (set stack 0 a) 1 ≡ a ∷ []
@@ -130,16 +109,16 @@ module _ {n : ℕ} {g : Graph} (few : n ≤ 31) (stack : List ℕ) (long : 2 < l
       let p : stacked (set s h word) (h + 1) ≡ word ∷ (a ∷ []) =
       stacked-push s h word (omega (arith, sign-room {stack = stack} {a = a} {b = b} (sign-one i e l))) ∙ rw (e, l) (ap (λ (z : List ℕ). word ∷ z) (one-entry stack long a)) in
       rw (p, ← w) (write-more (as-word {v = word} (omega (arith, unary-high o k))) (write-more (written-holds held few) write-none))
-  root-entries (sign-one i e l) (root-two {o} w held held′) = absurd (omega (arith, binary-range o))
-  root-entries (sign-two i e l) (root-one {o} w k held) = absurd (omega (arith, unary-low o))
+  root-entries (sign-one i e l) (root-two {o} w held held′) = let q : _≡_ {A = Bool} true false = sym (two-binary o) ∙ rw w at i in absurd (clash q)
+  root-entries (sign-two i e l) (root-one {o} w k held) = let q : _≡_ {A = Bool} true false = sym (rw w at i) ∙ two-unary o k in absurd (clash q)
   root-entries {s} {h} (sign-two i e l) (root-two {o} {x} {y} w held held′) =
       let p : stacked (set s h word) (h + 1) ≡ word ∷ (b ∷ (a ∷ [])) =
       stacked-push s h word (omega (arith, sign-room {stack = stack} {a = a} {b = b} (sign-two i e l))) ∙ rw (e, l) (ap (λ (z : List ℕ). word ∷ z) (two-entries stack long a b)) in
       rw (p, ← w, ← append-assoc (words x) (words y) (word ∷ []))
       (write-more (as-word {v = word} (omega (arith, binary-range o))) (write-more (written-holds held′ few) (write-more (written-holds held few) write-none)))
 
-module _ (g : Graph) (stack : List ℕ) (k : Cut) (long : length stack ≡ 16384) (s : List ℕ) (h : ℕ) (signed : Signed stack (k .word) (k .a) (k .b) s h) where
-  pub root-writable : (old : List ℕ) → Nodes g → RedexOf g k → length old ≡ 16384 → k .old ≤ 16384 → Writable g (set s h (k .word)) (h + 1) old (k .old)
+module _ (g : Graph) (stack : List ℕ) (k : Cut) (long : length stack ≡ most-words) (s : List ℕ) (h : ℕ) (signed : Signed stack (k .word) (k .a) (k .b) s h) where
+  pub root-writable : (old : List ℕ) → Nodes g → RedexOf g k → length old ≡ most-words → k .old ≤ most-words → Writable g (set s h (k .word)) (h + 1) old (k .old)
   root-writable old nodes r long′ within =
       record {
         n = r .n;
@@ -153,7 +132,7 @@ module _ (g : Graph) (stack : List ℕ) (k : Cut) (long : length stack ≡ 16384
       }
 
   -- whatever term the cut took away, it is this one
-  pub root-written : (old old′ : List ℕ) (from : ℕ) → length old ≡ 16384 → k .old ≤ 16384 → RedexOf g k
+  pub root-written : (old old′ : List ℕ) (from : ℕ) → length old ≡ most-words → k .old ≤ most-words → RedexOf g k
       → WroteBack g (set s h (k .word)) (h + 1) old old′ (k .old) from → RedexIn g k old′
   root-written old old′ from long′ within r w = record { redex-in = in-old }
     where

@@ -1,28 +1,20 @@
--- The unfolding's loop: the plan under work, the records in the list, and what is left of the run, which has the outcome of the whole run.
-use Prim.Native.Nat.{ℕ, suc, _+_, _-_, _≤_, _<_}
+-- The unfolding's loop: the plan given, the records in the list, and what is left of the run, which has the outcome of the whole run.
+use Prim.Native.Nat.{ℕ, _+_, _-_, _≤_, _<_}
 use native.Mathlib.Omega.{arith}
-use native.Mathlib.Numerals.{add-one}
-use mathlib.Core.Path.{_≡_, refl, sym, _∙_, ap}
+use mathlib.Core.Path.{_≡_, refl, sym, _∙_, ap, subst}
 use mathlib.Core.List.{List, [], _++_, append-assoc}
-use mathlib.Core.Option.{none}
 use lib.ListN.{length, take, drop, replicate, length-append, length-replicate, replicate-append-replicate}
 use lib.Seq.{take-at, drop-at}
+use Rattle.areas.specs.declared.StepState.{StepState}
 use Rattle.areas.specs.Area.{overwrite, padded}
+use Rattle.areas.specs.Storing.{no-step, before}
 use Rattle.tables.specs.Tables.{Tables}
-use Rattle.tables.specs.Search.{first-from}
-use Rattle.buffer.specs.declared.State.{State}
-use Rattle.buffer.specs.Buffer.{before}
-use Rattle.steps.specs.Records.{record-of}
-use Rattle.steps.specs.Choice.{next-step}
-use Rattle.steps.specs.Working.{plan-in, Working, Kept, Next}
-use Rattle.steps.proofs.Making.{kept-moved, before-moved}
+use Rattle.rewritings.specs.Records.{Move, bytes-of}
+use Rattle.rewritings.proofs.Bytes.{bytes-append}
 use Rattle.unfolding.specs.Unfolding.{run, run-of}
-use Rattle.unfolding.specs.declared.Turned.{Turned}
-use Rattle.unfolding.specs.declared.Turned.the-variants.{Ended, Stepped}
-use Rattle.unfolding.specs.declared.graph_run.Sped.{Sped}
-use Rattle.unfolding.specs.Walking.{SpedOf}
-use Rattle.unfolding.specs.Turns.{TurnOf, ended, stepped, Made}
-use Rattle.unfolding.proofs.Turning.{run-nowhere}
+use Rattle.unfolding.specs.Rounds.{Given, Ends, RoundEnd, run-over, another, RoundOf, RunMade}
+use Rattle.unfolding.specs.declared.rounds.Ending.the-variants.{Run as EndsRun, NoNode}
+use Rattle.unfolding.specs.declared.rounds.Round.{Round}
 
 abbrev zeros : ℕ → List ℕ
 zeros n = replicate n 0
@@ -43,130 +35,71 @@ overwrite-padded r v n k h l =
     (omega (arith, length-append r (zeros (length v)), length-replicate {A = ℕ} (length v) 0)) in
     rw (a, b, length-append r v) (sym (append-assoc r v (zeros m)))
 
--- the loop's invariant: r are the records made
-pub record Going (t : Tables) (c m₀ : ℕ) (w₀ list₀ : List ℕ) (list left starts right old : List ℕ) (s : State) (allowed used : ℕ) : Type 0 where
-  pub r : List ℕ
-  pub working : Working t left starts right s
-  pub kept : Kept c (plan-in left right s) old s
-  pub quiet : next-step t (take (s .read) left) ≡ none
-  pub list-is : list ≡ padded r (length list₀)
+-- the loop's invariant: ms are the steps made
+pub record Going (t : Tables) (c m₀ : ℕ) (w₀ list₀ : List ℕ) (list ws old : List ℕ) (front : ℕ) (s : StepState) (allowed used : ℕ) : Type 0 where
+  pub ms : List Move
+  pub given : Given t c ws old front s
+  pub list-is : list ≡ padded (bytes-of ms) (length list₀)
   pub list-long : length list ≡ length list₀
-  pub used-is : used ≡ length r
+  pub used-is : used ≡ length (bytes-of ms)
   pub used-low : used ≤ length list
   pub count : s .steps + allowed ≡ m₀
-  pub same : run t c allowed (length list - used) (s .steps) (plan-in left right s) (before s (plan-in left right s) old) r ≡ run-of t w₀ m₀ (length list₀) c
+  pub same : run t c allowed (length list - used) (s .steps) (drop front ws) (before s (drop front ws) old) ms ≡ run-of t w₀ m₀ (length list₀) c
 
-pub started : (t : Tables) (c m₀ : ℕ) (list left starts right old : List ℕ) (s : State) → list ≡ padded [] (length list)
-    → Working t left starts right s → Kept c (plan-in left right s) old s → s .steps ≡ 0 → s .read ≡ 0 → before s (plan-in left right s) old ≡ []
-    → Going t c m₀ (plan-in left right s) list list left starts right old s m₀ 0
-unfolding next-step first-from run-of
-started t c m₀ list left starts right old s clear work kept none-made none-read no-before =
+pub started : (t : Tables) (c m₀ : ℕ) (list ws old : List ℕ) (front : ℕ) → list ≡ padded [] (length list) → Given t c ws old front no-step
+    → Going t c m₀ (drop front ws) list list ws old front no-step m₀ 0
+unfolding run-of before bytes-of
+started t c m₀ list ws old front clear given =
     let q : length list - 0 ≡ length list = omega arith in
     record {
-      r = [];
-      working = work;
-      kept = kept;
-      quiet = rw none-read;
+      ms = [];
+      given = given;
       list-is = clear;
       list-long = refl;
       used-is = refl;
       used-low = omega arith;
       count = omega arith;
-      same = rw (q, no-before, none-made);
+      same = rw q;
     }
 
--- steps were made on a graph, or none
-pub sped : (t : Tables) (c m₀ : ℕ) (w₀ list₀ : List ℕ) (list left starts right old : List ℕ) (s : State) (allowed used : ℕ)
-    → Going t c m₀ w₀ list₀ list left starts right old s allowed used → (right′ old′ list′ : List ℕ) (r : Sped)
-    → SpedOf t c allowed used left starts right old list right′ old′ list′ s r → length list′ ≡ length list
-    → Going t c m₀ w₀ list₀ list′ left starts right′ old′ (r .state) (r .allowed) (r .used)
-unfolding next-step first-from
-sped t c m₀ w₀ list₀ list left starts right old s allowed used g right′ old′ list′ r h long =
-    record {
-      r = g .r ++ h .rs;
-      working = h .working;
-      kept = h .kept;
-      quiet = rw (h .none-read);
-      list-is = h .records ∙ rw (g .list-is) (overwrite-padded (g .r) (h .rs) (length list₀) used (g .used-is) (omega (arith, h .used-is, h .used-low, g .list-long)));
-      list-long = long ∙ g .list-long;
-      used-is = omega (arith, h .used-is, g .used-is, length-append (g .r) (h .rs));
-      used-low = omega (arith, h .used-low, long);
-      count = omega (arith, h .count, g .count);
-      same = rw long (sym (h .runs (g .r)) ∙ g .same);
-    }
+-- a round was made
+module _ (t : Tables) (c m₀ : ℕ) (w₀ list₀ : List ℕ) (list ws old : List ℕ) (front : ℕ) (s : StepState) (allowed used : ℕ)
+    (g : Going t c m₀ w₀ list₀ list ws old front s allowed used) (ws′ old′ list′ : List ℕ) (r : Round)
+    (h : RoundOf t c allowed used ws old list ws′ old′ list′ front s r) (long : length list′ ≡ length list) where
+  pub after-round : Going t c m₀ w₀ list₀ list′ ws′ old′ (r .front) (r .state) (r .allowed) (r .used)
+  after-round =
+      let b = bytes-append (g .ms) (h .ms) in
+      record {
+        ms = g .ms ++ h .ms;
+        given = h .given;
+        list-is = h .records ∙ rw (g .list-is, b) (overwrite-padded (bytes-of (g .ms)) (bytes-of (h .ms)) (length list₀) used (g .used-is) (omega (arith, h .used-is, h .used-low, g .list-long)));
+        list-long = long ∙ g .list-long;
+        used-is = omega (arith, h .used-is, g .used-is, ap length b, length-append (bytes-of (g .ms)) (bytes-of (h .ms)));
+        used-low = omega (arith, h .used-low, long);
+        count = omega (arith, h .count, g .count);
+        same = rw long (sym (h .runs (g .ms)) ∙ g .same);
+      }
 
-module _ (t : Tables) (c m₀ : ℕ) (w₀ list₀ : List ℕ) (list left starts right old : List ℕ) (s : State) (allowed used : ℕ)
-    (g : Going t c m₀ w₀ list₀ list left starts right old s allowed used) where
-  -- no law fits any more: the run ends
-  pub finished : next-step t (plan-in left right s) ≡ none
-      → Made t c (run-of t w₀ m₀ (length list₀) c) left starts right old list₀ list (record { number = 0; state = s })
-  finished none-fits =
-      let p = plan-in left right s in
-      let outcome = sym (g .same) ∙ run-nowhere t c allowed (length list - used) p none-fits (s .steps) (before s p old) (g .r) in
-      rw outcome (
-      record { working = g .working; kept = g .kept; number = refl; steps = refl; plan = refl; prior = refl; records = g .list-is }
-      )
+  over-of : {left room number : ℕ} {w : List ℕ} → RoundEnd t c allowed left room w (EndsRun number) → Ends t c left room w number
+  over-of (run-over number e) = e
 
-  module _ (left′ starts′ right′ old′ : List ℕ) where
-    abbrev Turning : Turned → Type 0
-    Turning o = TurnOf t c allowed (length list - used) left starts right old left′ starts′ right′ old′ s o
+  fewer-of : {left room : ℕ} {w : List ℕ} → RoundEnd t c allowed left room w NoNode → left < allowed
+  fewer-of (another l) = l
 
-    -- the run ends, by a turn
-    pub done : (number : ℕ) (s′ : State) (o : Turned) → Turning o → o ≡ Ended number s′
-        → Made t c (run-of t w₀ m₀ (length list₀) c) left′ starts′ right′ old′ list₀ list (record { number = number; state = s′ })
-    done number s′ o (stepped law place s″ w next a b u l quiet runs) q = let z : _≡_ {A = ℕ} 0 1 = cc in absurd (omega arith)
-    done number s′ o (ended k s″ same e runs) q =
-        let z : k ≡ number = cc in
-        let z′ : s″ ≡ s′ = cc in
-        let p = plan-in left right s in
-        let outcome = sym (g .same) ∙ runs (s .steps) (before s p old) (g .r) in
-        rw (outcome, ← z, ← z′) (
-        record {
-          working = same .working;
-          kept = rw (same .same-plan, e) (kept-moved c p old s s″ (same .same-step) (g .kept));
-          number = refl;
-          steps = ap (λ (i : State). i .steps) (same .same-step);
-          plan = same .same-plan;
-          prior = rw (same .same-plan, e) (before-moved p old s s″ (same .same-step));
-          records = g .list-is;
-        }
-        )
+  -- another round follows
+  pub fewer : r .ending ≡ NoNode → r .allowed < allowed
+  fewer e = fewer-of (subst (RoundEnd t c allowed (r .allowed) (length list - r .used) (drop (r .front) ws′)) e (h .ended))
 
-    -- a step was made
-    pub record Went (law place : ℕ) (s′ : State) : Type 0 where
-      pub w : List ℕ
-      pub next : Next t c left right left′ starts′ right′ old′ s s′ w
-      pub some-left : 1 ≤ allowed
-      pub room : used + 3 ≤ length list
-      pub low : place < 16384
-      pub quiet : next-step t (take (s′ .read) left′) ≡ none
-      pub runs : (k : ℕ) (v r : List ℕ)
-          → run t c allowed (length list - used) k (plan-in left right s) v r
-          ≡ run t c (allowed - 1) (length list - used - 3) (suc k) w (plan-in left right s) (r ++ record-of law place)
-
-    pub went : (law place : ℕ) (s′ : State) (o : Turned) → Turning o → o ≡ Stepped law place s′ → Went law place s′
-    went law place s′ o (ended k s″ same e runs) q = let z : _≡_ {A = ℕ} 0 1 = cc in absurd (omega arith)
-    went law place s′ o (stepped law′ place′ s″ w next a b u l quiet runs) q =
-        let z : law′ ≡ law = cc in
-        let z′ : place′ ≡ place = cc in
-        let z″ : s″ ≡ s′ = cc in
-        rw (← z, ← z′, ← z″) (record { w = w; next = next; some-left = a; room = omega (arith, g .used-low); low = l; quiet = quiet; runs = runs })
-
-    pub goes-on : (law place : ℕ) (s′ : State) (list′ : List ℕ) → Went law place s′ → list′ ≡ overwrite list used (record-of law place) → length list′ ≡ length list
-        → Going t c m₀ w₀ list₀ list′ left′ starts′ right′ old′ s′ (allowed - 1) (used + 3)
-    unfolding record-of
-    goes-on law place s′ list′ h e long =
-        let n = h .next in
-        let room : length list′ - (used + 3) ≡ length list - used - 3 = omega arith in
-        record {
-          r = g .r ++ record-of law place;
-          working = n .working;
-          kept = rw (n .next-plan) (n .kept);
-          quiet = h .quiet;
-          list-is = e ∙ rw (g .list-is) (overwrite-padded (g .r) (record-of law place) (length list₀) used (g .used-is) (omega (arith, h .room, g .list-long)));
-          list-long = long ∙ g .list-long;
-          used-is = omega (arith, g .used-is, length-append (g .r) (record-of law place));
-          used-low = omega (arith, h .room, long);
-          count = omega (arith, g .count, n .next-steps, h .some-left);
-          same = rw (room, n .next-plan, n .next-before, n .next-steps, add-one (s .steps)) (sym (h .runs (s .steps) (before s (plan-in left right s) old) (g .r)) ∙ g .same);
-        }
+  -- the run ends with it
+  pub over : (number : ℕ) → r .ending ≡ EndsRun number
+      → RunMade t c (run-of t w₀ m₀ (length list₀) c) ws′ old′ list₀ list′ (record { number = number; front = r .front; state = r .state })
+  over number e =
+      let w = drop (r .front) ws′ in
+      let n = after-round in
+      let z = over-of (subst (RoundEnd t c allowed (r .allowed) (length list - r .used) w) e (h .ended)) in
+      let q : length list - r .used ≡ length list′ - r .used = omega (arith, long) in
+      let last : run t c (r .allowed) (length list′ - r .used) (r .state .steps) w (before (r .state) w old′) (n .ms)
+      ≡ record { number = number; steps = r .state .steps; plan = w; before = before (r .state) w old′; moves = n .ms } =
+      rw (← q) (z (r .state .steps) (before (r .state) w old′) (n .ms)) in
+      let outcome = sym (n .same) ∙ last in
+      rw outcome (record { given = n .given; number = refl; steps = refl; plan = refl; prior = refl; records = n .list-is })

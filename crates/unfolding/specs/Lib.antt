@@ -1,3 +1,2 @@
 pub mod Unfolding
-pub mod Turns
-pub mod Walking
+pub mod Rounds

@@ -1,28 +1,26 @@
 // The unfolding of a plan: step after step, each at the least place at which one of laws 5 to 32 fits.
-mod graph_run;
+mod rounds;
 
-use buffer::State;
+use areas::MOST_WORDS;
+use areas::StepState;
 use refusals::Judgement;
 use refusals::Place;
 use refusals::Refusal;
-use steps::Made;
-use steps::Scanned;
+use rounds::Ending;
 ghost use mathlib.Core.Path.{_≡_};
 ghost use mathlib.Core.List.{[]};
 ghost use mathlib.Core.Option.{none};
 ghost use Prim.Native.Nat.{_+_, _≤_, _<_};
-ghost use lib.ListN.{length, take};
-ghost use Rattle.areas.specs.Area.{overwrite, padded};
+ghost use lib.ListN.{length, drop};
+ghost use Rattle.areas.specs.Area.{overwrite, padded, most-words};
+ghost use Rattle.areas.specs.Reached.{capacity};
+ghost use Rattle.areas.specs.Storing.{no-step};
 ghost use Rattle.tables.specs.Tables.{actions};
 ghost use Rattle.tables.specs.Lawful.{Lawful};
 ghost use Rattle.plans.specs.Judging.{plan-refusal};
-ghost use Rattle.buffer.specs.Areas.{capacity};
-ghost use Rattle.buffer.specs.Buffer.{before};
-ghost use Rattle.steps.specs.Records.{record-of};
-ghost use Rattle.steps.specs.Choice.{next-step};
-ghost use Rattle.steps.specs.Working.{plan-in, Working, Kept};
+ghost use Rattle.rewritings.specs.Records.{record-of};
 ghost use Rattle.unfolding.specs.Unfolding.{run-of, settled, unfold-outcome, UnfoldOutcome};
-ghost use Rattle.unfolding.specs.Turns.{TurnOf, Made as RunMade};
+ghost use Rattle.unfolding.specs.Rounds.{Given, RunMade};
 
 // What an unfolding answers: finished; or stopped by how far it had come (34, 35, 36); or refused by what was handed in. Steps are those
 // made, and size is the length of the plan reached.
@@ -39,16 +37,11 @@ pub enum Unfolded {
     Refused(Refusal),
 }
 
-// What one turn comes to: the end of the run, by its number, or a step by a law at a place.
-pub enum Turned {
-    Ended(u8, State),
-    Stepped(u8, usize, State),
-}
-
-// How a run ended.
+// How a run ended: its number, where the plan reached begins in the array of its words, and the step state.
 pub struct Last {
     pub number: u8,
-    pub state: State,
+    pub front: usize,
+    pub state: StepState,
 }
 
 // Records a step in three bytes: law, then place, low byte first.
@@ -61,136 +54,53 @@ fn put_record(list: &mut [u8], used: usize, law: u8, place: usize)
     list[used + 2] = (place / 256) as u8;
 }
 
-// One turn of the unfolding: finished if no law fits; else 34, 35, 36 in order; else the step is made.
-fn turn(
-    tables: &[u8],
-    n: u8,
-    left: &mut [u8],
-    starts: &mut [u16],
-    right: &mut [u8],
-    old: &mut [u8],
-    state: State,
-    allowed: usize,
-    room: usize,
-    limit: usize,
-) -> Turned
-    requires { ⌜ (n ≡ actions (now tables)) × Lawful (now tables) × (limit ≤ 16384) × (state .steps < 18446744073709551615) × (length (now old) ≡ 16384) ⌝ }
-    requires { ⌜ Working (now tables) (now left) (now starts) (now right) state × Kept limit (plan-in (now left) (now right) state) (now old) state ⌝ }
-    requires { ⌜ next-step (now tables) (take (state .read) (now left)) ≡ none ⌝ }
-    ensures { λ r. ⌜ TurnOf (now (tables .entry)) limit allowed room (now (left .entry)) (now (starts .entry)) (now (right .entry)) (now (old .entry)) (now (left .exit)) (now (starts .exit)) (now (right .exit)) (now (old .exit)) state r ⌝ }
-{
-    let mut from = [0u16; 7];
-    let mut to = [0u16; 7];
-    let scanned = steps::scan(
-        tables,
-        n,
-        &mut *left,
-        &mut *starts,
-        &*right,
-        &mut from,
-        &mut to,
-        state,
-    );
-    match scanned {
-        Scanned::Nowhere(gap) => Turned::Ended(0, gap),
-        Scanned::At(law, gap) => {
-            if allowed == 0 {
-                return Turned::Ended(34, gap);
-            }
-            if room < 3 {
-                return Turned::Ended(35, gap);
-            }
-            let place = gap.read - 1;
-            let made = steps::put_in(
-                law,
-                tables,
-                &*left,
-                &*starts,
-                right,
-                old,
-                &from,
-                &to,
-                gap,
-                limit,
-            );
-            match made {
-                Made::TooLong => Turned::Ended(36, gap),
-                Made::Step(next) => Turned::Stepped(law, place, next),
-            }
-        }
-    }
-}
-
-// The run of an unfolding on the plan under work, its records put into the list, which holds zeros.
+// The run of an unfolding, round after round, its records put into the list, which holds zeros. The plan stands at the end of `words`, from `front`
+// on.
 fn run_on(
     tables: &[u8],
     n: u8,
     list: &mut [u8],
-    left: &mut [u8],
-    starts: &mut [u16],
-    right: &mut [u8],
+    words: &mut [u8],
     old: &mut [u8],
-    state: State,
+    front: usize,
     allowance: u32,
     limit: usize,
 ) -> Last
-    requires { ⌜ (n ≡ actions (now tables)) × Lawful (now tables) × (limit ≤ 16384) × (length (now old) ≡ 16384) × (now list ≡ padded [] (length (now list))) ⌝ }
-    requires { ⌜ Working (now tables) (now left) (now starts) (now right) state × Kept limit (plan-in (now left) (now right) state) (now old) state ⌝ }
-    requires { ⌜ (state .steps ≡ 0) × (state .read ≡ 0) × (before state (plan-in (now left) (now right) state) (now old) ≡ []) ⌝ }
-    ensures { λ r. ⌜ RunMade (now (tables .entry)) limit (run-of (now (tables .entry)) (plan-in (now (left .entry)) (now (right .entry)) state) allowance (length (now (list .entry))) limit) (now (left .exit)) (now (starts .exit)) (now (right .exit)) (now (old .exit)) (now (list .entry)) (now (list .exit)) r ⌝ }
+    requires { ⌜ (n ≡ actions (now tables)) × Lawful (now tables) × (limit ≤ most-words) × (now list ≡ padded [] (length (now list))) ⌝ }
+    requires { ⌜ Given (now tables) limit (now words) (now old) front no-step ⌝ }
+    ensures { λ r. ⌜ RunMade (now (tables .entry)) limit (run-of (now (tables .entry)) (drop front (now (words .entry))) allowance (length (now (list .entry))) limit) (now (words .exit)) (now (old .exit)) (now (list .entry)) (now (list .exit)) r ⌝ }
 {
-    let mut gap = state;
+    let mut start = front;
+    let mut state = areas::no_step();
     let mut allowed = allowance as usize;
     let mut used: usize = 0;
     loop {
-        let sped = graph_run::make_steps(
+        let round = rounds::make_round(
             tables,
             n,
             &mut *list,
             used,
-            &*left,
-            &*starts,
-            &mut *right,
+            &mut *words,
             &mut *old,
-            gap,
+            start,
+            state,
             allowed,
             limit,
         );
-        let reached = sped.state;
-        if sped.finished {
-            return Last {
-                number: 0,
-                state: reached,
-            };
-        }
-        used = sped.used;
-        allowed = sped.allowed;
-        let room = list.len() - used;
-        let turned = turn(
-            tables,
-            n,
-            &mut *left,
-            &mut *starts,
-            &mut *right,
-            &mut *old,
-            reached,
-            allowed,
-            room,
-            limit,
-        );
-        match turned {
-            Turned::Ended(number, last) => {
+        start = round.front;
+        state = round.state;
+        allowed = round.allowed;
+        used = round.used;
+        let ending = round.ending;
+        match ending {
+            Ending::Run(number) => {
                 return Last {
                     number,
-                    state: last,
+                    front: start,
+                    state,
                 };
             }
-            Turned::Stepped(law, place, next) => {
-                put_record(&mut *list, used, law, place);
-                gap = next;
-                allowed -= 1;
-                used += 3;
-            }
+            Ending::NoNode => {}
         }
     }
 }
@@ -209,28 +119,26 @@ fn unfold_accepted(
     ensures { λ r. ⌜ _≡_ {A = UnfoldOutcome} (record { answer = r; list = now (list .exit); a = now (a .exit); b = now (b .exit) }) (settled (run-of (now (tables .entry)) (now (plan .entry)) allowance (length (now (list .entry))) limit) (now (list .entry)) (now (a .entry)) (now (b .entry))) ⌝ }
 {
     let n = tables::actions_of(tables);
-    let mut left = [0u8; 16384];
-    let mut starts = [0u16; 16384];
-    let mut right = [0u8; 16384];
-    let mut old = [0u8; 16384];
-    let state = buffer::load(plan, &mut right);
+    let mut words = [0u8; MOST_WORDS];
+    let mut old = [0u8; MOST_WORDS];
+    let front = MOST_WORDS - plan.len();
+    areas::copy_in(plan, &mut words, front);
     areas::clear_from(&mut *list, 0);
     let last = run_on(
         tables,
         n,
         &mut *list,
-        &mut left,
-        &mut starts,
-        &mut right,
+        &mut words,
         &mut old,
-        state,
+        front,
         allowance,
         limit,
     );
-    let end = last.state;
-    let size = buffer::store(&left, &right, &old, end, a, b);
+    let start = last.front;
+    let state = last.state;
+    let size = areas::store(&plan[..0], &words[start..], &old, state, a, b);
     let number = last.number;
-    let steps = end.steps;
+    let steps = state.steps;
     if number == 0 {
         return Unfolded::Finished { steps, size };
     }
@@ -258,7 +166,7 @@ pub fn unfold(
         }
         Judgement::Accepted => {}
     }
-    let limit = steps::least(a.len(), b.len());
+    let limit = areas::least(a.len(), b.len());
     if limit < plan.len() {
         return Unfolded::Refused(Refusal {
             number: 15,

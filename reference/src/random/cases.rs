@@ -4,10 +4,11 @@ use super::plans::{any_plan, damaged_plan, plan, small_plan};
 use super::rewritings::{damage_rewriting, derivation, Derivation};
 use super::tables::{damaged_tables, lawful_tables};
 use super::Random;
-use crate::checking::{self, check};
+use crate::checking::{self, check_rewriting};
 use crate::laws::{apply, next_step};
 use crate::plans::{judge, LONGEST_PLAN};
 use crate::refusals::Refusal;
+use crate::runs::reached;
 use crate::stations::{put_sum, put_word, read_station, write_station, BLOCK, CONTENT, HEAD};
 use crate::tables::{trial_tables, TABLES_LENGTH};
 use crate::unfolding::{self, unfold, RECORD};
@@ -67,12 +68,7 @@ impl Unfolded {
         match self.answer {
             unfolding::Answer::Refused(_) => None,
             unfolding::Answer::Ended { steps, size, .. } => {
-                let area = if steps.is_multiple_of(2) {
-                    &self.a
-                } else {
-                    &self.b
-                };
-                Some(&area[..size])
+                Some(reached(&self.a, &self.b, steps, size))
             }
         }
     }
@@ -110,7 +106,7 @@ impl CheckCase {
     /// Checks, leaving the case as it is.
     pub fn run(&self) -> Checked {
         let (mut a, mut b) = (self.a.clone(), self.b.clone());
-        let answer = check(
+        let answer = check_rewriting(
             &self.tables,
             &self.start,
             &self.claimed,

@@ -56,20 +56,20 @@ impl Checked {
 /// the rewriting. The areas then keep their bytes.
 ///
 /// ```
-/// use aberulwy::{check, Verdict};
+/// use aberulwy::{check_rewriting, Verdict};
 ///
 /// let tables = aberulwy::examples::trial_tables();
 /// let (start, claimed) = ([1, 2, 64], [2, 1, 64]);
 /// let (mut a, mut b) = ([0; 8], [0; 8]);
 /// // Law 1 at place 2: x+y to y+x.
-/// let checked = check(&tables, &start, &claimed, &[1, 2, 0], &mut a, &mut b)?;
+/// let checked = check_rewriting(&tables, &start, &claimed, &[1, 2, 0], &mut a, &mut b)?;
 /// assert!(checked.accepted());
 /// // Law 4 asks for two equal operands.
-/// let checked = check(&tables, &start, &claimed, &[4, 2, 0], &mut a, &mut b)?;
+/// let checked = check_rewriting(&tables, &start, &claimed, &[4, 2, 0], &mut a, &mut b)?;
 /// assert_eq!((checked.verdict, checked.steps), (Verdict::DoesNotFit, 0));
 /// # Ok::<(), aberulwy::Refusal>(())
 /// ```
-pub fn check(
+pub fn check_rewriting(
     tables: &[u8],
     start: &[u8],
     claimed: &[u8],
@@ -77,7 +77,9 @@ pub fn check(
     a: &mut [u8],
     b: &mut [u8],
 ) -> Result<Checked, Refusal> {
-    checked(raw::check(tables, start, claimed, rewriting, a, b))
+    checked(raw::check_rewriting(
+        tables, start, claimed, rewriting, a, b,
+    ))
 }
 
 /// The named answer of a check.

@@ -32,13 +32,13 @@
 //! # Stack
 //!
 //! Allow 640 KiB for [`list_station`], 512 KiB for [`unfold`] and [`unfold_checked`], 128 KiB
-//! for [`check`], and 64 KiB for each other call; `include/aberulwy.h` has what was measured.
-//! The default of a Rust thread (2 MiB) is enough for all of them.
+//! for [`check_rewriting`], and 64 KiB for each other call; `include/aberulwy.h` has what was
+//! measured. The default of a Rust thread (2 MiB) is enough for all of them.
 //!
 //! # Linking
 //!
-//! The archive `libexports.a` is written by `rt staticlib exports` in the repository's root.
-//! It is found in `target/staticlib` there, or in the folder that `ABERULWY_ARCHIVE_DIR`
+//! The archive `libaberulwy_c.a` is written by `rt staticlib aberulwy_c` in the repository's
+//! root. It is found in `target/staticlib` there, or in the folder that `ABERULWY_ARCHIVE_DIR`
 //! names.
 
 #![deny(unsafe_code)]
@@ -52,7 +52,7 @@ mod refusals;
 mod stations;
 mod unfolding;
 
-pub use checking::{check, Checked, Verdict};
+pub use checking::{check_rewriting, Checked, Verdict};
 pub use judging::{count_orders, is_basic, judge_plan, judge_tables};
 pub use refusals::{Place, Refusal};
 pub use stations::{list_station, read_station};

@@ -165,7 +165,7 @@ mod archive {
             size: *mut usize,
         ) -> u8;
 
-        pub fn aberulwy_check(
+        pub fn aberulwy_check_rewriting(
             tables: *const u8,
             tables_len: usize,
             start: *const u8,
@@ -381,7 +381,7 @@ pub fn reached(a: &[u8], b: &[u8], steps: usize, size: usize, plan_area: &mut [u
 }
 
 /// Checks a rewriting: 0, or 31 to 33; or 1 to 8, 11 to 18 with every lent byte kept.
-pub fn check(
+pub fn check_rewriting(
     tables: &[u8],
     start: &[u8],
     claimed: &[u8],
@@ -392,7 +392,7 @@ pub fn check(
     let (mut steps, mut size, mut place) = (NOT_SET, NOT_SET, NOT_SET);
     // SAFETY: see the head of this file.
     let number = unsafe {
-        archive::aberulwy_check(
+        archive::aberulwy_check_rewriting(
             tables.as_ptr(),
             tables.len(),
             start.as_ptr(),

@@ -125,8 +125,8 @@ pub struct UnfoldedChecked {
 }
 
 /// Unfolds a plan as [`unfold`] does in areas A and B, and then checks the unfolding's own
-/// rewriting as [`check`](crate::check) does, in two further areas. Where these are as long as
-/// A and B, the check accepts: that is proved.
+/// rewriting as [`check_rewriting`](crate::check_rewriting) does, in two further areas. Where
+/// these are as long as A and B, the check accepts: that is proved.
 ///
 /// # Errors
 ///

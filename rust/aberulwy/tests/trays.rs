@@ -66,13 +66,13 @@ fn the_own_rewriting_is_accepted() {
     let answer = unfold(&tables, &plan, 9, &mut list, &mut a, &mut b).unwrap();
     let (claimed, rewriting) = (answer.reached(&a, &b), answer.rewriting(&list));
     let (mut a2, mut b2) = ([9; 64], [9; 64]);
-    let checked = check(&tables, &plan, claimed, rewriting, &mut a2, &mut b2).unwrap();
+    let checked = check_rewriting(&tables, &plan, claimed, rewriting, &mut a2, &mut b2).unwrap();
     assert!(checked.accepted());
     assert_eq!((checked.steps, checked.size), (answer.steps, answer.size));
     assert_eq!(checked.reached(&a2, &b2), claimed);
-    let wrong = check(&tables, &plan, &[1], rewriting, &mut a2, &mut b2).unwrap();
+    let wrong = check_rewriting(&tables, &plan, &[1], rewriting, &mut a2, &mut b2).unwrap();
     assert_eq!(wrong.verdict, Verdict::EndDiffers);
-    let long = check(&tables, &plan, claimed, rewriting, &mut a2[..11], &mut b2).unwrap();
+    let long = check_rewriting(&tables, &plan, claimed, rewriting, &mut a2[..11], &mut b2).unwrap();
     assert_eq!((long.verdict, long.steps), (Verdict::TooLong, 0));
 }
 
@@ -82,7 +82,8 @@ fn refusals_keep_the_lent_bytes() {
     let tables = trial_tables();
     let refusal = unfold(&tables, &[1, 2, 66], 9, &mut list, &mut a, &mut b).unwrap_err();
     assert_eq!((refusal.number(), refusal.place()), (15, Place::Nowhere));
-    let refusal = check(&tables, &[1], &[1], &[1, 0, 0, 33, 0, 0], &mut a, &mut b).unwrap_err();
+    let refusal =
+        check_rewriting(&tables, &[1], &[1], &[1, 0, 0, 33, 0, 0], &mut a, &mut b).unwrap_err();
     assert_eq!((refusal.number(), refusal.place()), (17, Place::Step(1)));
     assert_eq!((list, a, b), ([7; 9], [7; 2], [7; 9]));
 }

@@ -17,7 +17,7 @@ pub struct Contender {
     /// Its unfolding.
     pub unfold: Unfold,
     /// Its checker.
-    pub check: Check,
+    pub check_rewriting: Check,
 }
 
 /// The unverified version in plain Rust.
@@ -25,8 +25,10 @@ pub const PLAIN: Contender = Contender {
     unfold: |tables, plan, allowance, list, a, b| {
         unfolded(plain::unfold(tables, plan, allowance, list, a, b))
     },
-    check: |tables, start, claimed, rewriting, a, b| {
-        checked(plain::check(tables, start, claimed, rewriting, a, b))
+    check_rewriting: |tables, start, claimed, rewriting, a, b| {
+        checked(plain::check_rewriting(
+            tables, start, claimed, rewriting, a, b,
+        ))
     },
 };
 
@@ -35,8 +37,10 @@ pub const REFERENCE: Contender = Contender {
     unfold: |tables, plan, allowance, list, a, b| {
         unfolded(unfolding::unfold(tables, plan, allowance, list, a, b))
     },
-    check: |tables, start, claimed, rewriting, a, b| {
-        checked(checking::check(tables, start, claimed, rewriting, a, b))
+    check_rewriting: |tables, start, claimed, rewriting, a, b| {
+        checked(checking::check_rewriting(
+            tables, start, claimed, rewriting, a, b,
+        ))
     },
 };
 
@@ -74,8 +78,8 @@ pub const PROVED: Option<Contender> = Some(Contender {
         let ended = aberulwy::raw::unfold(tables, plan, allowance, list, a, b);
         (ended.number, ended.steps, ended.size)
     },
-    check: |tables, start, claimed, rewriting, a, b| {
-        let ended = aberulwy::raw::check(tables, start, claimed, rewriting, a, b);
+    check_rewriting: |tables, start, claimed, rewriting, a, b| {
+        let ended = aberulwy::raw::check_rewriting(tables, start, claimed, rewriting, a, b);
         (ended.number, ended.steps, ended.size)
     },
 });

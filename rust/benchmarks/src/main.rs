@@ -6,8 +6,8 @@ use benchmarks::contenders::{PLAIN, PROVED};
 use benchmarks::maude;
 use benchmarks::measuring::{cell, least_times, mean};
 use benchmarks::workloads::{
-    longest_sum, single_action, sizes, stopped_merges, sum_tables, Call, Places, Replay, Unfolding,
-    MERGES, STOPPED_CHAINS,
+    longest_sum, single_action, sizes, stopped_merges, sum_tables, Places, Replay, Unfolding,
+    Workload, MERGES, STOPPED_CHAINS,
 };
 use reference::plans::LONGEST_PLAN;
 use reference::tables::{actions, trial_tables};
@@ -54,7 +54,7 @@ struct Times {
 
 impl Times {
     /// Compares both once, then measures both, in nanoseconds for a call.
-    fn measure(name: &str, call: &mut impl Call) -> Times {
+    fn measure(name: &str, call: &mut impl Workload) -> Times {
         let outcome = call.outcome(PLAIN);
         let ((number, _, _), _) = outcome;
         assert_eq!(number, 0, "{name}: the plain version comes to no end");
@@ -197,7 +197,9 @@ fn longer_chains(with_maude: bool) {
     println!(
         "Areas of {LONGEST_PLAN} words; the second chain is again the longest. Σ δ·(x‖y): merges"
     );
-    println!("of different actions, each after a dead stop; there one burst follows another.");
+    println!(
+        "of different actions, each after a dead stop; there the plan is loaded again and again."
+    );
     let mut table = Unfoldings::begin(with_maude, "plan | chains");
     for merge in MERGES {
         for first in LONG_CHAINS {

@@ -2,6 +2,7 @@
 
 use crate::contenders::{Contender, Ended, PLAIN};
 use reference::plans::{CHOICE, ENCAPSULATION, LONGEST_PLAN, MERGE, PRODUCT, THETA};
+use reference::runs::reached;
 use reference::tables::{
     entry, trial_tables, COMMUNICATION, DEAD_STOP, PRIORITY, SETS, TABLES_LENGTH,
 };
@@ -19,7 +20,7 @@ pub fn sizes() -> impl Iterator<Item = usize> {
 const UNTOUCHED: u8 = 0xA5;
 
 /// A call with what it is lent.
-pub trait Call {
+pub trait Workload {
     /// Makes the call.
     fn run(&mut self, contender: Contender) -> Ended;
 
@@ -72,11 +73,7 @@ impl Unfolding {
             b: vec![0; area],
         };
         let (number, steps, size) = unfolding.run(PLAIN);
-        let area = match steps % 2 {
-            0 => &unfolding.a,
-            _ => &unfolding.b,
-        };
-        unfolding.reached = area[..size].to_vec();
+        unfolding.reached = reached(&unfolding.a, &unfolding.b, steps, size).to_vec();
         unfolding.steps = steps;
         unfolding.list.truncate(3 * steps);
         (number == 0).then_some(unfolding)
@@ -89,7 +86,7 @@ impl Unfolding {
     }
 }
 
-impl Call for Unfolding {
+impl Workload for Unfolding {
     fn run(&mut self, contender: Contender) -> Ended {
         let (list, a, b) = (&mut self.list, &mut self.a, &mut self.b);
         (contender.unfold)(&self.tables, &self.plan, self.allowance, list, a, b)
@@ -304,10 +301,10 @@ impl Replay {
     }
 }
 
-impl Call for Replay {
+impl Workload for Replay {
     fn run(&mut self, contender: Contender) -> Ended {
         let (tables, start, rewriting) = (&self.tables, &self.start, &self.rewriting);
-        (contender.check)(tables, start, start, rewriting, &mut self.a, &mut self.b)
+        (contender.check_rewriting)(tables, start, start, rewriting, &mut self.a, &mut self.b)
     }
 
     fn lent(&mut self) -> Vec<&mut [u8]> {

@@ -1,6 +1,7 @@
 //! Cases: a call with everything handed to it, how cases are drawn, and what comes out.
 
-use crate::implementation::{Answer, Implementation};
+use crate::answers::Answer;
+use crate::implementation::{Call, Implementation};
 use reference::plans::{judge_plan, operands, LONGEST_PLAN};
 use reference::random::cases::{
     check_case, own_rewriting_case, station_case, station_file, tables_and_plan, unfold_case_of,
@@ -27,7 +28,7 @@ pub enum Case {
     /// An unfolding.
     Unfold(UnfoldCase),
     /// A rewriting to check.
-    Check(CheckCase),
+    CheckRewriting(CheckCase),
     /// A station file to read.
     ReadStation(StationCase),
     /// An unfolding whose own rewriting is checked.
@@ -114,11 +115,11 @@ impl Case {
             9 => {
                 let unfolding = any_unfolding(random);
                 match own_rewriting_case(&unfolding) {
-                    Some(own) => Case::Check(own),
+                    Some(own) => Case::CheckRewriting(own),
                     None => Case::Unfold(unfolding),
                 }
             }
-            10..=13 => Case::Check(any_check(random)),
+            10..=13 => Case::CheckRewriting(any_check(random)),
             14 | 15 => Case::ReadStation(any_station(random)),
             16 | 17 => Case::UnfoldChecked(any_checked(random)),
             18 => Case::Reached(any_reached(random)),
@@ -129,15 +130,15 @@ impl Case {
     /// Makes the call, leaving the case as it is.
     pub fn run(&self, implementation: &impl Implementation) -> Outcome {
         let mut lent: Vec<Vec<u8>> = self.lent().into_iter().cloned().collect();
-        let answer = match (self, &mut lent[..]) {
-            (Case::JudgeTables(tables), _) => implementation.judge_tables(tables),
-            (Case::JudgePlan(tables, plan), _) => implementation.judge_plan(tables, plan),
-            (Case::IsBasic(tables, plan), _) => implementation.is_basic(tables, plan),
-            (Case::CountOrders(tables, plan), _) => implementation.count_orders(tables, plan),
+        let call = match (self, &mut lent[..]) {
+            (Case::JudgeTables(tables), _) => Call::JudgeTables(tables),
+            (Case::JudgePlan(tables, plan), _) => Call::JudgePlan(tables, plan),
+            (Case::IsBasic(tables, plan), _) => Call::IsBasic(tables, plan),
+            (Case::CountOrders(tables, plan), _) => Call::CountOrders(tables, plan),
             (Case::Unfold(case), [list, a, b]) => {
-                implementation.unfold(&case.tables, &case.plan, case.allowance, list, a, b)
+                Call::Unfold(&case.tables, &case.plan, case.allowance, list, a, b)
             }
-            (Case::Check(case), [a, b]) => implementation.check(
+            (Case::CheckRewriting(case), [a, b]) => Call::CheckRewriting(
                 &case.tables,
                 &case.start,
                 &case.claimed,
@@ -146,9 +147,9 @@ impl Case {
                 b,
             ),
             (Case::ReadStation(case), [tables, plan]) => {
-                implementation.read_station(&case.file, tables, plan)
+                Call::ReadStation(&case.file, tables, plan)
             }
-            (Case::UnfoldChecked(case), [list, a, b, c, d]) => implementation.unfold_checked(
+            (Case::UnfoldChecked(case), [list, a, b, c, d]) => Call::UnfoldChecked(
                 &case.unfolding.tables,
                 &case.unfolding.plan,
                 case.unfolding.allowance,
@@ -157,11 +158,12 @@ impl Case {
                 [c, d],
             ),
             (Case::Reached(case), [plan]) => {
-                implementation.reached(&case.a, &case.b, case.steps, case.size, plan)
+                Call::Reached(&case.a, &case.b, case.steps, case.size, plan)
             }
-            (Case::ListStation(case), [out]) => implementation.list_station(&case.file, out),
+            (Case::ListStation(case), [out]) => Call::ListStation(&case.file, out),
             _ => unreachable!("each case lends what its call takes"),
         };
+        let answer = implementation.answer(call);
         Outcome { answer, lent }
     }
 
@@ -169,7 +171,7 @@ impl Case {
     fn lent(&self) -> Vec<&Vec<u8>> {
         match self {
             Case::Unfold(case) => vec![&case.list, &case.a, &case.b],
-            Case::Check(case) => vec![&case.a, &case.b],
+            Case::CheckRewriting(case) => vec![&case.a, &case.b],
             Case::ReadStation(case) => vec![&case.tables, &case.plan],
             Case::UnfoldChecked(case) => {
                 let unfolding = &case.unfolding;

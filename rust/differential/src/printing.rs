@@ -44,8 +44,8 @@ impl fmt::Display for Case {
             Case::IsBasic(tables, plan) => judged(f, "is_basic", tables, plan),
             Case::CountOrders(tables, plan) => judged(f, "count_orders", tables, plan),
             Case::Unfold(case) => unfolding(f, "unfold", case),
-            Case::Check(case) => {
-                judged(f, "check", &case.tables, &case.start)?;
+            Case::CheckRewriting(case) => {
+                judged(f, "check_rewriting", &case.tables, &case.start)?;
                 writeln!(f, "  claimed: {}", Bytes(&case.claimed))?;
                 writeln!(f, "  rewriting: {}", Bytes(&case.rewriting))?;
                 writeln!(f, "  a: {}", Bytes(&case.a))?;

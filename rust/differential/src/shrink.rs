@@ -38,7 +38,7 @@ fn smaller(case: &Case) -> Vec<Case> {
         Case::IsBasic(tables, plan) => smaller_judged(tables, plan, Case::IsBasic),
         Case::CountOrders(tables, plan) => smaller_judged(tables, plan, Case::CountOrders),
         Case::Unfold(case) => each(smaller_unfoldings(case), Case::Unfold),
-        Case::Check(case) => smaller_checks(case),
+        Case::CheckRewriting(case) => smaller_checks(case),
         Case::ReadStation(case) => smaller_stations(case),
         Case::UnfoldChecked(case) => smaller_checked(case),
         Case::Reached(case) => smaller_reached(case),
@@ -60,7 +60,7 @@ fn weight(case: &Case) -> u64 {
         | Case::IsBasic(tables, plan)
         | Case::CountOrders(tables, plan) => bytes(&[tables, plan]),
         Case::Unfold(case) => unfolding_weight(case),
-        Case::Check(case) => {
+        Case::CheckRewriting(case) => {
             let handed_in = bytes(&[&case.tables, &case.start, &case.claimed, &case.rewriting]);
             handed_in + unlike(&[&case.a, &case.b])
         }
@@ -193,7 +193,7 @@ fn smaller_checks(case: &CheckCase) -> Vec<Case> {
         .with(smaller_tables(&case.tables), |case, tables| {
             case.tables = tables
         });
-    each(changed.found, Case::Check)
+    each(changed.found, Case::CheckRewriting)
 }
 
 fn smaller_stations(case: &StationCase) -> Vec<Case> {

@@ -1,6 +1,6 @@
 //! The comparison finds damage: copies of the reference, each with one constant changed.
 
-use differential::{compare, Answer, Case, Implementation, Reference};
+use differential::{compare, Answer, Call, Case, Implementation, Reference};
 use reference::random::Random;
 use std::collections::BTreeSet;
 
@@ -123,11 +123,9 @@ impl Damaged {
         }
         read
     }
-}
 
-impl Implementation for Damaged {
     fn judge_tables(&self, tables: &[u8]) -> Answer {
-        let mut answer = Reference.judge_tables(tables);
+        let mut answer = Reference.answer(Call::JudgeTables(tables));
         match self.0 {
             MostActions if tables.len() == 2305 && tables[0] == 31 => return refusal(2),
             TripleWeight if [6, 8].contains(&answer.number) => answer.place &= !31,
@@ -137,7 +135,7 @@ impl Implementation for Damaged {
     }
 
     fn judge_plan(&self, tables: &[u8], plan: &[u8]) -> Answer {
-        let answer = Reference.judge_plan(tables, plan);
+        let answer = Reference.answer(Call::JudgePlan(tables, plan));
         match self.0 {
             LongestPlan if answer.number == 0 && plan.len() == 16_384 => refusal(11),
             LastSign if answer.number == 0 && plan == [plan[0], 87] => Answer {
@@ -151,12 +149,12 @@ impl Implementation for Damaged {
     fn is_basic(&self, tables: &[u8], plan: &[u8]) -> Answer {
         match self.0 {
             DeadStopBasic if plan == [0] => Answer::ended(0, [0, 0]),
-            _ => Reference.is_basic(tables, plan),
+            _ => Reference.answer(Call::IsBasic(tables, plan)),
         }
     }
 
     fn count_orders(&self, tables: &[u8], plan: &[u8]) -> Answer {
-        let mut answer = Reference.count_orders(tables, plan);
+        let mut answer = Reference.answer(Call::CountOrders(tables, plan));
         if self.0 == DeadStopOrders && answer.values[0] > 0 {
             answer.values[0] -= plan.iter().filter(|&&word| word == 0).count();
         }
@@ -186,14 +184,14 @@ impl Implementation for Damaged {
         };
         let last = b.last().copied();
         let read = self.read(tables);
-        let answer = Reference.unfold(
+        let answer = Reference.answer(Call::Unfold(
             &read,
             plan,
             allowance,
             &mut list[..shown],
             &mut a[..room],
             b,
-        );
+        ));
         if !is_refusal(answer) {
             list[shown..].fill(0);
             a[room..].fill(0);
@@ -206,7 +204,7 @@ impl Implementation for Damaged {
         answer
     }
 
-    fn check(
+    fn check_rewriting(
         &self,
         tables: &[u8],
         start: &[u8],
@@ -227,7 +225,8 @@ impl Implementation for Damaged {
                 _ => {}
             }
         }
-        let mut answer = Reference.check(tables, start, claimed, &read, a, b);
+        let mut answer =
+            Reference.answer(Call::CheckRewriting(tables, start, claimed, &read, a, b));
         let [steps, size] = answer.values;
         match self.0 {
             Claim if answer.number == 33 && size == claimed.len() => {
@@ -247,7 +246,7 @@ impl Implementation for Damaged {
         if self.0 == MostBlocks && file.len() == 38 * 512 {
             return refusal(51);
         }
-        let mut answer = Reference.read_station(file, tables_area, plan_area);
+        let mut answer = Reference.answer(Call::ReadStation(file, tables_area, plan_area));
         match self.0 {
             Sum if answer.number == 52 => answer.number = 53,
             PlanFilling if answer.number == 0 => {
@@ -269,7 +268,14 @@ impl Implementation for Damaged {
         [c, d]: [&mut [u8]; 2],
     ) -> Answer {
         let last = d.last().copied();
-        let mut answer = Reference.unfold_checked(tables, plan, allowance, list, areas, [c, d]);
+        let mut answer = Reference.answer(Call::UnfoldChecked(
+            tables,
+            plan,
+            allowance,
+            list,
+            areas,
+            [c, d],
+        ));
         match (self.0, d.last_mut()) {
             (CheckMade, _) => answer.own[0] = 1,
             (OwnSteps, _) if answer.own[0] == 1 => answer.own[2] += 1,
@@ -292,7 +298,7 @@ impl Implementation for Damaged {
             _ => steps,
         };
         let before = plan_area.to_vec();
-        let answer = Reference.reached(a, b, steps, size, plan_area);
+        let answer = Reference.answer(Call::Reached(a, b, steps, size, plan_area));
         if self.0 == CopyRoom && answer.number == 0 && answer.values[0] == before.len() {
             plan_area.copy_from_slice(&before);
             return refusal(1);
@@ -302,7 +308,7 @@ impl Implementation for Damaged {
 
     fn list_station(&self, file: &[u8], out: &mut [u8]) -> Answer {
         let before = out.to_vec();
-        let answer = Reference.list_station(file, out);
+        let answer = Reference.answer(Call::ListStation(file, out));
         let size = answer.values[0];
         match self.0 {
             ListRoom if size == before.len() => {
@@ -313,6 +319,33 @@ impl Implementation for Damaged {
             _ => {}
         }
         answer
+    }
+}
+
+impl Implementation for Damaged {
+    fn answer(&self, call: Call) -> Answer {
+        match call {
+            Call::JudgeTables(tables) => self.judge_tables(tables),
+            Call::JudgePlan(tables, plan) => self.judge_plan(tables, plan),
+            Call::IsBasic(tables, plan) => self.is_basic(tables, plan),
+            Call::CountOrders(tables, plan) => self.count_orders(tables, plan),
+            Call::Unfold(tables, plan, allowance, list, a, b) => {
+                self.unfold(tables, plan, allowance, list, a, b)
+            }
+            Call::UnfoldChecked(tables, plan, allowance, list, areas, check_areas) => {
+                self.unfold_checked(tables, plan, allowance, list, areas, check_areas)
+            }
+            Call::Reached(a, b, steps, size, plan_area) => {
+                self.reached(a, b, steps, size, plan_area)
+            }
+            Call::CheckRewriting(tables, start, claimed, rewriting, a, b) => {
+                self.check_rewriting(tables, start, claimed, rewriting, a, b)
+            }
+            Call::ReadStation(file, tables_area, plan_area) => {
+                self.read_station(file, tables_area, plan_area)
+            }
+            Call::ListStation(file, out) => self.list_station(file, out),
+        }
     }
 }
 
@@ -363,7 +396,7 @@ fn every_law_is_used() {
         let steps = outcome.answer.values[0];
         match case {
             Case::Unfold(_) => unfolded.extend(laws(&outcome.lent[0], steps)),
-            Case::Check(case) => checked.extend(laws(&case.rewriting, steps)),
+            Case::CheckRewriting(case) => checked.extend(laws(&case.rewriting, steps)),
             _ => {}
         }
     }

@@ -9,8 +9,8 @@ reached-requires c κs = search needs
 own-records-requires : tie.Need-own-records-requires
 own-records-requires c κs = search needs
 
-check-requires : tie.Need-check-requires
-check-requires c κs = search needs
+check-rewriting-requires : tie.Need-check-rewriting-requires
+check-rewriting-requires c κs = search needs
 
 same-length : tie.Need-same-length
 same-length c = search needs
@@ -21,7 +21,7 @@ same-length-2 c = search needs
 returns : tie.Need-returns
 returns c =
     let k = c .before .before .before .before in
-    rw (← k .before .before .before .before .reached .ensures, ← k .before .before .before .own-records .ensures) (k .check .ensures)
+    rw (← k .before .before .before .before .reached .ensures, ← k .before .before .before .own-records .ensures) (k .check-rewriting .ensures)
 
 pub check-own-spec : {M : Type 1} → statement M
 check-own-spec =
@@ -29,7 +29,7 @@ check-own-spec =
     (tie.spec
     reached-requires
     own-records-requires
-    check-requires
+    check-rewriting-requires
     same-length
     same-length-2
     returns)

@@ -6,9 +6,10 @@ use Rattle.refusals.proofs.Judging.{accepted-none, refused-some}
 use Rattle.tables.specs.Tables.{actions}
 use Rattle.plans.specs.Judging.{plan-refusal}
 use Rattle.plans.specs.Basic.{basic-words?}
+use Rattle.plans.specs.Accepted.{BasicPlan}
 use Rattle.aberulwy.specs.declared.BasicAnswer.{BasicAnswer}
 use Rattle.aberulwy.specs.declared.BasicAnswer.the-variants.{Yes}
-use Rattle.aberulwy.specs.Judging.{basic-answer, basic-report, bit, BasicPlan}
+use Rattle.aberulwy.specs.Judging.{basic-answer, basic-report, bit}
 use Rattle.aberulwy.proofs.Judging.{few-of, basic-numbers, basic-yes}
 use Prim.Native.Nat.{ℕ}
 use mathlib.Core.List.{List, [], _∷_}

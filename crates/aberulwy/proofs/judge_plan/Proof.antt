@@ -1,7 +1,8 @@
 -- `aberulwy::judge_plan` meets its contract: the answer is the lower layer's, and acceptance means the words of one term.
-use Rattle.aberulwy.proofs.Judging.{numbers-of, accepts-iff, accepted-plan}
+use Rattle.aberulwy.proofs.Judging.{numbers-of, accepts-iff}
 use borrow.Author.Needs.{needs}
 use Rattle.plans.specs.Judging.{plan-refusal}
+use Rattle.plans.proofs.Accepted.{accepted-plan}
 use Rattle.aberulwy.proofs.judge_plan.Statement.{statement}
 use Rattle.aberulwy.proofs.judge_plan.Tie as tie
 

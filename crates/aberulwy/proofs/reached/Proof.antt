@@ -1,7 +1,7 @@
 -- `aberulwy::reached` meets its contract: the remainder of the steps by 2 tells their parity.
 use Prim.Native.Nat.{_%_}
 use mathlib.Core.Path.{_≡_}
-use Rattle.demands.specs.Claims.{reached-part}
+use Rattle.areas.specs.Reached.{reached-part}
 use native.Mathlib.Omega.{arith}
 use borrow.Author.Needs.{needs}
 use Rattle.aberulwy.proofs.reached.Statement.{statement}

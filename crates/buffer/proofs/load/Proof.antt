@@ -3,9 +3,10 @@ use native.Mathlib.Omega.{arith}
 use borrow.Author.Needs.{needs}
 use mathlib.Core.Path.{refl, _∙_}
 use Rattle.areas.proofs.Area.{overwrite-length}
-use Rattle.buffer.proofs.Putting.{drop-end}
+use Rattle.buffer.proofs.Whole.{drop-end}
 use Rattle.buffer.proofs.load.Statement.{statement}
 use Rattle.buffer.proofs.load.Tie as tie
+use Rattle.areas.specs.Area.{most-words}
 
 sub-rest : tie.Need-sub-rest
 sub-rest c = search needs
@@ -13,14 +14,17 @@ sub-rest c = search needs
 copy-in-requires : tie.Need-copy-in-requires
 copy-in-requires c κs = search needs
 
+no-step-requires : tie.Need-no-step-requires
+no-step-requires c κs = search needs
+
 same-length : tie.Need-same-length
 same-length c = search needs
 
 returns : tie.Need-returns
 returns c =
-    let a = c .before .before .before .before .before .before .args in
-    let e = c .before .before .copy-in .ensures .0 in
-    (refl, rw e (drop-end (a .right .now) (a .plan .now) 16384 (omega arith) (omega arith)), rw e (overwrite-length (a .right .now) _ (a .plan .now) (omega arith) ∙ (omega arith)))
+    let a = c .before .before .before .before .before .before .before .args in
+    let e = c .before .before .before .copy-in .ensures .0 in
+    (rw (c .no-step .ensures) refl, rw e (drop-end (a .right .now) (a .plan .now) most-words (omega arith) (omega arith)), rw e (overwrite-length (a .right .now) _ (a .plan .now) (omega arith) ∙ (omega arith)))
 
 pub load-spec : {M : Type 1} → statement M
-load-spec = tie.close (tie.spec sub-rest copy-in-requires same-length returns)
+load-spec = tie.close (tie.spec sub-rest copy-in-requires no-step-requires same-length returns)

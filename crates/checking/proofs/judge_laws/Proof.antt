@@ -8,9 +8,9 @@ use Prim.Native.Nat.{_-_, _≤_}
 use mathlib.Core.Path.{_≡_, refl, sym, _∙_}
 use mathlib.Core.List.{[]}
 use lib.ListN.{length, drop}
-use Rattle.steps.specs.Records.{Move, moves-of}
+use Rattle.rewritings.specs.Records.{Move, moves-of}
 use Rattle.checking.specs.Checking.{unknown-law}
-use Rattle.checking.proofs.Cutting.{moves-end, moves-step, Step-read}
+use Rattle.rewritings.proofs.Cutting.{moves-end, moves-step, Step-read}
 use native.Mathlib.Omega.{arith}
 use borrow.Author.Needs.{needs}
 use Rattle.checking.proofs.judge_laws.Statement.{statement}

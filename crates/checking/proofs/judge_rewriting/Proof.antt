@@ -4,6 +4,7 @@ use mathlib.Core.Option.{none, some}
 use borrow.Author.Tests.{lt-ltb, le-ltb, eq-eqb, ne-eqb}
 use Rattle.refusals.proofs.Judging.{accepted-none, refused-some}
 use Rattle.plans.specs.Judging.{words-refusal}
+use Rattle.rewritings.proofs.Cutting.{whole-by-three}
 use Rattle.checking.specs.Checking.{rewriting-refusal}
 use borrow.Author.Needs.{needs}
 use Rattle.checking.proofs.judge_rewriting.Statement.{statement}
@@ -37,14 +38,14 @@ returns-2 c = rw (claimed (c .before), lt-ltb _ _ (c .if1 .taken)) refl
 
 returns-3 : tie.Need-returns-3
 unfolding rewriting-refusal
-returns-3 c = rw (claimed (c .before .before), le-ltb _ _ (c .before .if1 .left), ne-eqb _ _ (c .if2 .taken)) refl
+returns-3 c = rw (claimed (c .before .before), le-ltb _ _ (c .before .if1 .left), whole-by-three _, ne-eqb _ _ (c .if2 .taken)) refl
 
 judge-laws-requires : tie.Need-judge-laws-requires
 judge-laws-requires c κs = search needs
 
 returns-4 : tie.Need-returns-4
 unfolding rewriting-refusal
-returns-4 c = rw (claimed (c .before .before .before), le-ltb _ _ (c .before .before .if1 .left), eq-eqb _ _ (c .before .if2 .left), c .judge-laws .ensures) refl
+returns-4 c = rw (claimed (c .before .before .before), le-ltb _ _ (c .before .before .if1 .left), whole-by-three _, eq-eqb _ _ (c .before .if2 .left), c .judge-laws .ensures) refl
 
 pub judge-rewriting-spec : {M : Type 1} → statement M
 judge-rewriting-spec =

@@ -1,9 +1,13 @@
 -- Entries are written from the last word to the first. The invariant: with the words of the entries left written too, the area is as it shall be.
 -- The measure is the place of the word written last.
 use Prim.Native.Nat.{ℕ, _+_, _-_, _<_}
+use mathlib.Core.Path.{_≡_, sym, _∙_}
+use mathlib.Core.Bool.{true}
 use native.Mathlib.Omega.{arith}
+use borrow.Author.Needs.{needs}
 use lib.ListN.{length, getD, length-set}
-use Rattle.graph.specs.Graph.{graph}
+use Rattle.plans.specs.Word.{takes-two?}
+use Rattle.graph.specs.Graph.{graph, most-nodes}
 use Rattle.graph.proofs.Writing.{Writing, writing-starts, turn-inside, turn-word, turn-one, two-room, turn-two, writing-ends}
 use Rattle.graph.proofs.write_back.Statement.{statement}
 use Rattle.graph.proofs.write_back.Tie as tie
@@ -20,19 +24,19 @@ module _ (c : tie.Else1 Inv-loop μ-loop) where
   head = c .before .before .before
 
   abbrev start : tie.Start Inv-loop μ-loop
-  start = head .before
+  start = head .before .before .before .before .before .before
 
   abbrev v : ℕ
   v = getD (head .loop .stack) (head .loop .h - 1) 0
 
-  inside : (v < length (start .args .own .now)) × (v < length (start .args .first .now)) × (v < length (start .args .second .now)) × (v < 32768)
+  inside : (v < length (start .args .own .now)) × (v < length (start .args .first .now)) × (v < length (start .args .second .now)) × (v < most-nodes)
   inside = turn-inside (head .loop .inv) (c .before .before .loop-test .taken) (c .if1 .left)
 
-  room : getD (start .args .own .now) v 0 < 70 → head .loop .h - 1 + 1 < length (head .loop .stack)
+  room : takes-two? (getD (start .args .own .now) v 0) ≡ true → head .loop .h - 1 + 1 < length (head .loop .stack)
   room = two-room (head .loop .inv) (c .before .before .loop-test .taken) (c .if1 .left)
 
 loop-holds : tie.Need-loop-holds Inv-loop μ-loop
-loop-holds c = writing-starts (c .pre)
+loop-holds c = writing-starts (c .before .before .before .before .before .pre)
 
 sub-h : tie.Need-sub-h Inv-loop μ-loop
 sub-h c = omega arith
@@ -85,20 +89,23 @@ slice-write-stack c = omega arith
 add-h : tie.Need-add-h Inv-loop μ-loop
 add-h c = omega arith
 
+takes-two-requires : tie.Need-takes-two-requires Inv-loop μ-loop
+takes-two-requires c κs = search needs
+
 cast-stack-2 : tie.Need-cast-stack-2 Inv-loop μ-loop
-cast-stack-2 c = omega (arith, inside (c .before .before .before))
+cast-stack-2 c = omega (arith, inside (c .before .before .before .before))
 
 mul-stack-3 : tie.Need-mul-stack-3 Inv-loop μ-loop
-mul-stack-3 c = omega (arith, inside (c .before .before .before))
+mul-stack-3 c = omega (arith, inside (c .before .before .before .before))
 
 shared-slice-read-stack-2 : tie.Need-shared-slice-read-stack-2 Inv-loop μ-loop
-shared-slice-read-stack-2 c = inside (c .before .before .before .before) .2
+shared-slice-read-stack-2 c = inside (c .before .before .before .before .before) .2
 
 mul-stack-4 : tie.Need-mul-stack-4 Inv-loop μ-loop
 mul-stack-4 c = omega arith
 
 slice-write-stack-2 : tie.Need-slice-write-stack-2 Inv-loop μ-loop
-slice-write-stack-2 c = simp length-set (room (c .before .before .before .before) (c .before .if2 .taken))
+slice-write-stack-2 c = simp length-set (room (c .before .before .before .before .before) (sym (c .before .before .takes-two .ensures) ∙ c .before .if2 .taken))
 
 add-h-2 : tie.Need-add-h-2 Inv-loop μ-loop
 add-h-2 c = omega arith
@@ -108,16 +115,17 @@ loop-less-2 c = omega arith
 
 loop-again-2 : tie.Need-loop-again-2 Inv-loop μ-loop
 loop-again-2 c =
-    let d = c .before .before .before .before in
-    let k = d .before .before in turn-two (k .before .loop .inv) (k .loop-test .taken) (d .if1 .left) (c .before .if2 .taken)
+    let d = c .before .before .before .before .before in
+    let k = d .before .before in
+    turn-two (k .before .loop .inv) (k .loop-test .taken) (d .if1 .left) (sym (c .before .before .takes-two .ensures) ∙ c .before .if2 .taken)
 
 loop-less-3 : tie.Need-loop-less-3 Inv-loop μ-loop
 loop-less-3 c = omega arith
 
 loop-again-3 : tie.Need-loop-again-3 Inv-loop μ-loop
 loop-again-3 c =
-    let d = c .before .before .before in
-    let k = d .before .before in turn-one (k .before .loop .inv) (k .loop-test .taken) (d .if1 .left) (c .if2 .left)
+    let d = c .before .before .before .before in
+    let k = d .before .before in turn-one (k .before .loop .inv) (k .loop-test .taken) (d .if1 .left) (sym (c .before .takes-two .ensures) ∙ c .if2 .left)
 
 same-length : tie.Need-same-length Inv-loop μ-loop
 same-length c = omega arith
@@ -152,6 +160,7 @@ write-back-spec =
     mul-stack-2
     slice-write-stack
     add-h
+    takes-two-requires
     cast-stack-2
     mul-stack-3
     shared-slice-read-stack-2

@@ -1,5 +1,5 @@
 -- `listing::put_ending` meets its contract: the first line, the words reached and the steps stand one after another.
-use Rattle.buffer.specs.Areas.{even?}
+use Rattle.areas.specs.Reached.{even?}
 use mathlib.Core.Path.{sym}
 use Prim.Native.Nat.{_+_, _*_, _≤_}
 use lib.ListN.{length, take}

@@ -17,7 +17,7 @@ abbrev μ-loop : tie.MeasureT-loop
 μ-loop a b i₀ i = length a - i
 
 returns : tie.Need-returns Inv-loop μ-loop
-returns c = sym (same-long (c .before .args .v .now) (c .before .args .w .now) (c .if1 .taken))
+returns c = sym (same-long (c .before .args .v .now) (c .before .args .w .now) (λ e. omega arith))
 
 loop-holds : tie.Need-loop-holds Inv-loop μ-loop
 loop-holds c = (omega arith, refl)

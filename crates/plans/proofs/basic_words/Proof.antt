@@ -8,6 +8,7 @@ use borrow.Author.Needs.{needs}
 use Rattle.plans.proofs.Scanning.{Scanned, scan-starts, took-action, took-one, took-two, too-few-for-one, too-few-for-two, at-no-word, ends-basic, ends-other}
 use Rattle.plans.proofs.basic_words.Statement.{statement}
 use Rattle.plans.proofs.basic_words.Tie as tie
+use Rattle.areas.specs.Area.{most-words}
 
 abbrev Inv-loop : tie.InvT-loop
 Inv-loop n plan kinds₀ depth₀ i₀ kinds depth i = Scanned n plan kinds depth i
@@ -16,7 +17,7 @@ abbrev μ-loop : tie.MeasureT-loop
 μ-loop n plan kinds₀ depth₀ i₀ kinds depth i = length plan - i
 
 loop-holds : tie.Need-loop-holds Inv-loop μ-loop
-loop-holds c = scan-starts _ _ _ (omega arith) (length-replicate {A = ℕ} 16384 0)
+loop-holds c = scan-starts _ _ _ (omega arith) (length-replicate {A = ℕ} most-words 0)
 
 shared-slice-read-classify : tie.Need-shared-slice-read-classify Inv-loop μ-loop
 shared-slice-read-classify c = search needs

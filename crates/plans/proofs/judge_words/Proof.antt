@@ -19,9 +19,10 @@ use Rattle.plans.specs.Word.{word-of, operands-of}
 use Rattle.plans.specs.Judging.{no-word?, turn-of, refusal-from, words-refusal}
 use Rattle.plans.proofs.judge_words.Statement.{statement}
 use Rattle.plans.proofs.judge_words.Tie as tie
+use Rattle.areas.specs.Area.{most-words}
 
 abbrev Inv-loop : tie.InvT-loop
-Inv-loop n plan depth₀ i₀ depth i = (i ≤ length plan) × (length plan ≤ 16384) × (depth ≤ i) × (refusal-from n i depth (drop i plan) ≡ words-refusal n plan)
+Inv-loop n plan depth₀ i₀ depth i = (i ≤ length plan) × (length plan ≤ most-words) × (depth ≤ i) × (refusal-from n i depth (drop i plan) ≡ words-refusal n plan)
 
 abbrev μ-loop : tie.MeasureT-loop
 μ-loop n plan depth₀ i₀ depth i = length plan - i

@@ -10,13 +10,29 @@ use Rattle.steps.proofs.Putting.{side-size, size-bound, not-put, now-pu
 use Rattle.steps.proofs.put_in.Statement.{statement}
 use Rattle.steps.proofs.put_in.Tie as tie
 
+-- the places: the start, the size of the right side told, the words kept, the right side written
+abbrev start : tie.After-shared-slice-known6 → tie.Start
+start c = c .before .before .before .before .before .before .before .before
+
+abbrev entry : tie.After-right-len → tie.Start
+entry c = start (c .before)
+
+abbrev short : tie.After-copy-in → tie.Else1
+short c = c .before .before .before
+
+abbrev kept : tie.After-put-side-arg → tie.After-copy-in
+kept c = c .before .before .before
+
+abbrev written : tie.After-after-step → tie.After-put-side
+written c = c .before .before .before
+
+abbrev copied : tie.After-put-side → tie.After-copy-in
+copied c = kept (c .before .before)
+
 -- where the subplan starts, and the size of the right side
 started : (s : tie.Start) → start-here (s .args .starts .now) (s .args .state) < s .args .state .read
 started s =
     start-before (s .args .tables .now) (s .args .left .now) (s .args .starts .now) (s .args .right .now) (s .args .state) (s .pre .1 .1) (s .pre .1 .0)
-
-abbrev entry : tie.After-right-len → tie.Start
-entry c = c .before .before .before .before .before .before .before .before .before
 
 few-words : (c : tie.After-right-len) → c .right-len .result ≤ 180224
 few-words c =
@@ -35,7 +51,7 @@ shared-slice-read-start c = search needs
 
 cast-start : tie.Need-cast-start
 cast-start c =
-    let s = c .before .before .before .before .before .before .before .before in
+    let s = start c in
     omega (arith, started s, s .pre .1 .1 .held .apart, s .pre .1 .1 .held .rest-in)
 
 right-len-requires : tie.Need-right-len-requires
@@ -81,16 +97,17 @@ sub-front c = search needs
 
 slice-aggregate-put-side : tie.Need-slice-aggregate-put-side
 slice-aggregate-put-side c =
-    let s = c .before .before .before .before .before .before .before .before .before .before .before .before .before .before .before .before in
+    let s = entry (short (kept c) .before) in
     sym (length-take-le _ _ (omega (arith, s .pre .1 .1 .held .apart, s .pre .1 .1 .held .rest-in, s .pre .1 .1 .held .left-long)))
 
 put-side-requires : tie.Need-put-side-requires
 put-side-requires c κs =
-    let k = c .before .before .before .before .before .before .before .before in
+    let e1 = short (kept (c .before)) in
+    let k = e1 .before in
     let s = entry k in
     let a = s .args in
     let e = side-size (a .tables .now) (a .law) (a .limit) (a .left .now) (a .starts .now) (a .right .now) (a .old .now) (a .from .now) (a .to .now) (a .state) (s .pre .1 .0) (s .pre .1 .1) (s .pre .1 .2) (k .right-len .result) (k .right-len .ensures) in
-    ((s .pre .0 .0, s .pre .0 .1, s .pre .1 .2), omega (arith, e, s .pre .0 .2, c .before .before .before .before .before .before .before .if1 .left, s .pre .1 .1 .held .rest-in, s .pre .1 .1 .held .right-long))
+    ((s .pre .0 .0, s .pre .0 .1, s .pre .1 .2), omega (arith, e, s .pre .0 .2, e1 .if1 .left, s .pre .1 .1 .held .rest-in, s .pre .1 .1 .held .right-long))
 
 after-step-requires : tie.Need-after-step-requires
 after-step-requires c κs = search needs
@@ -103,10 +120,12 @@ same-length-2 c = search needs
 
 returns-2 : tie.Need-returns-2
 returns-2 c =
-    let k = c .before .before .before .before .before .before .before .before .before .before .before .before in
+    let d = written c in
+    let w = copied d in
+    let k = short w .before in
     let s = entry k in
     let a = s .args in
-    now-put (a .tables .now) (a .law) (a .limit) (a .left .now) (a .starts .now) (a .right .now) (a .old .now) (a .from .now) (a .to .now) (a .state) (s .pre .1 .0) (s .pre .1 .1) (s .pre .1 .2) (k .right-len .result) (k .right-len .ensures) _ _ (c .after-step .result) (c .before .before .before .before .before .before .before .before .before .before .before .if1 .left) (s .pre .1 .3) (c .before .before .before .before .before .before .before .before .copy-in .ensures .0) (c .before .before .before .put-side .ensures .0) (c .after-step .ensures)
+    now-put (a .tables .now) (a .law) (a .limit) (a .left .now) (a .starts .now) (a .right .now) (a .old .now) (a .from .now) (a .to .now) (a .state) (s .pre .1 .0) (s .pre .1 .1) (s .pre .1 .2) (k .right-len .result) (k .right-len .ensures) _ _ (c .after-step .result) (short w .if1 .left) (s .pre .1 .3) (w .copy-in .ensures .0) (d .put-side .ensures .0) (c .after-step .ensures)
 
 pub put-in-spec : {M : Type 1} → statement M
 put-in-spec =

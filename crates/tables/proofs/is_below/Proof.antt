@@ -4,12 +4,12 @@ use Rattle.tables.specs.Tables.{below}
 use Rattle.tables.proofs.is_below.Statement.{statement}
 use Rattle.tables.proofs.is_below.Tie as tie
 
-entry-at-requires : tie.Need-entry-at-requires
-entry-at-requires c κs = search needs
+is-marked-requires : tie.Need-is-marked-requires
+is-marked-requires c κs = search needs
 
 returns : tie.Need-returns
 unfolding below
-returns c = rw (c .entry-at .ensures)
+returns c = c .is-marked .ensures
 
 pub is-below-spec : {M : Type 1} → statement M
-is-below-spec = tie.close (tie.spec entry-at-requires returns)
+is-below-spec = tie.close (tie.spec is-marked-requires returns)

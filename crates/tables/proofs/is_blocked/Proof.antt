@@ -4,12 +4,12 @@ use Rattle.tables.specs.Tables.{blocked}
 use Rattle.tables.proofs.is_blocked.Statement.{statement}
 use Rattle.tables.proofs.is_blocked.Tie as tie
 
-entry-at-requires : tie.Need-entry-at-requires
-entry-at-requires c κs = search needs
+is-marked-requires : tie.Need-is-marked-requires
+is-marked-requires c κs = search needs
 
 returns : tie.Need-returns
 unfolding blocked
-returns c = rw (c .entry-at .ensures)
+returns c = c .is-marked .ensures
 
 pub is-blocked-spec : {M : Type 1} → statement M
-is-blocked-spec = tie.close (tie.spec entry-at-requires returns)
+is-blocked-spec = tie.close (tie.spec is-marked-requires returns)

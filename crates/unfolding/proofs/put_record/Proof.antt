@@ -7,7 +7,7 @@ use mathlib.Core.List.{List, [], _∷_}
 use lib.ListN.{length, set, length-set}
 use Rattle.areas.specs.Area.{overwrite}
 use Rattle.areas.proofs.Area.{overwrite-one, overwrite-two, overwrite-length}
-use Rattle.steps.specs.Records.{record-of}
+use Rattle.rewritings.specs.Records.{record-of}
 use Rattle.unfolding.proofs.put_record.Statement.{statement}
 use Rattle.unfolding.proofs.put_record.Tie as tie
 

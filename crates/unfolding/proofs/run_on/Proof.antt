@@ -1,180 +1,99 @@
--- `unfolding::run_on` meets its contract. The invariant: `Going`, the run from here has the outcome of the whole run; the steps that are made on
--- a graph at the head of a turn keep it. The measure is the steps still allowed.
+-- `unfolding::run_on` meets its contract. The invariant: `Going`, what is left of the run has the outcome of the whole run. The measure is the steps
+-- still allowed, since a round that another follows has made one.
 use native.Mathlib.Omega.{arith}
 use borrow.Author.Needs.{needs}
 use mathlib.Core.Path.{sym, _∙_}
-use Rattle.steps.specs.Working.{plan-in}
-use Rattle.unfolding.proofs.Running.{Going, started, sped, finished, done, Went, went, goes-on}
+use lib.ListN.{drop}
+use Rattle.unfolding.specs.Rounds.{RoundOf}
+use Rattle.unfolding.proofs.Running.{Going, started, after-round, fewer, over}
 use Rattle.unfolding.proofs.run_on.Statement.{statement}
 use Rattle.unfolding.proofs.run_on.Tie as tie
 
 abbrev Inv-loop : tie.InvT-loop
-Inv-loop tables n list₀ left₀ starts₀ right₀ old₀ allowance limit gap₀ allowed₀ used₀ list left starts right old gap allowed used =
-    Going tables limit allowance (plan-in left₀ right₀ gap₀) list₀ list left starts right old gap allowed used
+Inv-loop tables n list₀ words₀ old₀ front allowance limit start₀ state₀ allowed₀ used₀ list words old start state allowed used =
+    Going tables limit allowance (drop front words₀) list₀ list words old start state allowed used
 
 abbrev μ-loop : tie.MeasureT-loop
-μ-loop tables n list₀ left₀ starts₀ right₀ old₀ allowance limit gap₀ allowed₀ used₀ list left starts right old gap allowed used = allowed
+μ-loop tables n list₀ words₀ old₀ front allowance limit start₀ state₀ allowed₀ used₀ list words old start state allowed used = allowed
 
--- the head of the loop, the function's entry, and the steps made on a graph, before a turn and where they finish the run
-abbrev at-loop : tie.After-make-steps Inv-loop μ-loop → tie.At-loop Inv-loop μ-loop
-at-loop c = c .before .before .before .before .before .before
+-- the head of the loop, the function's entry, and the round before a place behind it
+abbrev at-loop : tie.After-make-round Inv-loop μ-loop → tie.At-loop Inv-loop μ-loop
+at-loop k = k .before .before .before .before
 
-abbrev entry : tie.After-make-steps Inv-loop μ-loop → tie.Start Inv-loop μ-loop
-entry c = c .before .before .before .before .before .before .before .before .before .before .before .before .before
+abbrev entry : tie.At-loop Inv-loop μ-loop → tie.Start Inv-loop μ-loop
+entry l = l .before .before .before .before .before .before
 
-abbrev at-steps : tie.After-turn Inv-loop μ-loop → tie.After-make-steps Inv-loop μ-loop
-at-steps c = c .before .before .before .before .before .before .before .before .before .before .before .before .before
+abbrev ended : tie.After-known-told Inv-loop μ-loop → tie.After-make-round Inv-loop μ-loop
+ended c = c .before .before .before .before .before .before .before .before .before .before
 
-abbrev at-finish : tie.Then1 Inv-loop μ-loop → tie.After-make-steps Inv-loop μ-loop
-at-finish c = c .before .before .before .before .before .before .before .before
+abbrev followed : tie.After-enum-told Inv-loop μ-loop → tie.After-make-round Inv-loop μ-loop
+followed c = c .before .before .before .before .before .before .before .before .before
 
--- the invariant holds after them
-abbrev GoingAt : tie.After-make-steps Inv-loop μ-loop → Type 0
-GoingAt k =
-    let a = entry k .args in
+-- the round
+abbrev RoundAt : tie.After-make-round Inv-loop μ-loop → Type 0
+RoundAt k =
     let l = at-loop k .loop in
-    let m = k .make-steps in
-    Going (a .tables .now) (a .limit) (a .allowance) (plan-in (a .left .now) (a .right .now) (a .state)) (a .list .now) (m .last .1 .1 .0) (l .left) (l .starts) (m .last .1 .1 .1 .1 .1 .1 .0) (m .last .1 .1 .1 .1 .1 .1 .1 .0) (m .result .state) (m .result .allowed) (m .result .used)
+    let a = entry (at-loop k) .args in
+    let m = k .make-round in
+    RoundOf (a .tables .now) (a .limit) (l .allowed) (l .used) (l .words) (l .old) (l .list) (m .last .1 .1 .1 .1 .0) (m .last .1 .1 .1 .1 .1 .0) (m .last .1 .1 .0) (l .start) (l .state) (m .result)
 
-going : (k : tie.After-make-steps Inv-loop μ-loop) → GoingAt k
-going k =
-    let a = entry k .args in
-    let l = at-loop k .loop in
-    let m = k .make-steps in
-    sped (a .tables .now) (a .limit) (a .allowance) (plan-in (a .left .now) (a .right .now) (a .state)) (a .list .now) (l .list) (l .left) (l .starts) (l .right) (l .old) (l .gap) (l .allowed) (l .used) (l .inv) (m .last .1 .1 .1 .1 .1 .1 .0) (m .last .1 .1 .1 .1 .1 .1 .1 .0) (m .last .1 .1 .0) (m .result) (m .ensures) (m .kept .1 .1 .0)
+round-at : (k : tie.After-make-round Inv-loop μ-loop) → RoundAt k
+round-at k = k .make-round .ensures
 
--- the step of a turn
-abbrev turn-at : tie.After-known-told2 Inv-loop μ-loop → tie.After-turn Inv-loop μ-loop
-turn-at c = c .before .before .before .before .before .before .before .before .before .before .before
-
-abbrev WentOn : tie.After-known-told2 Inv-loop μ-loop → Type 0
-WentOn c =
-    let k = at-steps (turn-at c) in
-    let a = entry k .args in
-    let l = at-loop k .loop in
-    let m = k .make-steps in
-    let t = turn-at c .turn in
-    Went (a .tables .now) (a .limit) (a .allowance) (plan-in (a .left .now) (a .right .now) (a .state)) (a .list .now) (m .last .1 .1 .0) (l .left) (l .starts) (m .last .1 .1 .1 .1 .1 .1 .0) (m .last .1 .1 .1 .1 .1 .1 .1 .0) (m .result .state) (m .result .allowed) (m .result .used) (going k) (t .last .1 .1 .0) (t .last .1 .1 .1 .0) (t .last .1 .1 .1 .1 .0) (t .last .1 .1 .1 .1 .1 .0) (c .before .turned2 .given .0 .0) (c .before .turned2 .given .0 .1 .0) (c .before .turned2 .given .0 .1 .1 .0)
-
-went-on : (c : tie.After-known-told2 Inv-loop μ-loop) → WentOn c
-went-on c =
-    let k = at-steps (turn-at c) in
-    let a = entry k .args in
-    let l = at-loop k .loop in
-    let m = k .make-steps in
-    let t = turn-at c .turn in
-    went (a .tables .now) (a .limit) (a .allowance) (plan-in (a .left .now) (a .right .now) (a .state)) (a .list .now) (m .last .1 .1 .0) (l .left) (l .starts) (m .last .1 .1 .1 .1 .1 .1 .0) (m .last .1 .1 .1 .1 .1 .1 .1 .0) (m .result .state) (m .result .allowed) (m .result .used) (going k) (t .last .1 .1 .0) (t .last .1 .1 .1 .0) (t .last .1 .1 .1 .1 .0) (t .last .1 .1 .1 .1 .1 .0) _ _ _ (t .result) (t .ensures) (c .before .turned2 .given .1)
+no-step-requires : tie.Need-no-step-requires Inv-loop μ-loop
+no-step-requires c κs = search needs
 
 loop-holds : tie.Need-loop-holds Inv-loop μ-loop
 loop-holds c =
-    let s = c .before .before .before .before .before .before in
+    let s = c .before .before .before .before .before in
     let a = s .args in
-    let p = s .pre in
-    started (a .tables .now) (a .limit) (a .allowance) (a .list .now) (a .left .now) (a .starts .now) (a .right .now) (a .old .now) (a .state) (p .0 .4) (p .1 .0 .0) (p .1 .0 .1) (p .1 .1 .0) (p .1 .1 .1) (p .1 .1 .2)
+    rw (c .no-step .ensures) (started (a .tables .now) (a .limit) (a .allowance) (a .list .now) (a .words .now) (a .old .now) (a .front) (s .pre .0 .3) (s .pre .1))
 
-make-steps-requires : tie.Need-make-steps-requires Inv-loop μ-loop
-make-steps-requires c κs =
-    let g = c .before .before .before .before .before .loop .inv in
-    let s = c .before .before .before .before .before .before .before .before .before .before .before .before in
-    ((s .pre .0 .0, s .pre .0 .1, s .pre .0 .2, g .used-low, omega (arith, g .count, s .fits .allowance)), (g .working, g .kept))
+make-round-requires : tie.Need-make-round-requires Inv-loop μ-loop
+make-round-requires c κs =
+    let l = c .before .before .before in
+    let p = entry l .pre .0 in
+    let g = l .loop .inv in
+    ((p .0, p .1, p .2, g .used-low, omega (arith, g .count, entry l .good)), g .given)
+
+enum-known-ending : tie.Need-enum-known-ending Inv-loop μ-loop
+enum-known-ending c = search needs
 
 same-length : tie.Need-same-length Inv-loop μ-loop
-same-length c = going (at-finish c) .list-long
+same-length c = let k = ended c in k .make-round .kept .1 .1 .0 ∙ at-loop k .loop .inv .list-long
 
 same-length-2 : tie.Need-same-length-2 Inv-loop μ-loop
-same-length-2 c = let k = at-finish c in going k .working .held .left-long ∙ sym (entry k .pre .1 .0 .0 .held .left-long)
+same-length-2 c = let k = ended c in round-at k .given .long ∙ sym (entry (at-loop k) .pre .1 .long)
 
 same-length-3 : tie.Need-same-length-3 Inv-loop μ-loop
-same-length-3 c = let k = at-finish c in going k .working .held .starts-long ∙ sym (entry k .pre .1 .0 .0 .held .starts-long)
-
-same-length-4 : tie.Need-same-length-4 Inv-loop μ-loop
-same-length-4 c = let k = at-finish c in going k .working .held .right-long ∙ sym (entry k .pre .1 .0 .0 .held .right-long)
-
-same-length-5 : tie.Need-same-length-5 Inv-loop μ-loop
-same-length-5 c = let k = at-finish c in going k .kept .undoable .old-long ∙ sym (entry k .pre .0 .3)
+same-length-3 c = let k = ended c in round-at k .given .old-long ∙ sym (entry (at-loop k) .pre .1 .old-long)
 
 returns : tie.Need-returns Inv-loop μ-loop
 returns c =
-    let k = at-finish c in
-    let a = entry k .args in
+    let k = ended c in
     let l = at-loop k .loop in
-    let m = k .make-steps in
-    finished (a .tables .now) (a .limit) (a .allowance) (plan-in (a .left .now) (a .right .now) (a .state)) (a .list .now) (m .last .1 .1 .0) (l .left) (l .starts) (m .last .1 .1 .1 .1 .1 .1 .0) (m .last .1 .1 .1 .1 .1 .1 .1 .0) (m .result .state) (m .result .allowed) (m .result .used) (going k) (m .ensures .over (c .if1 .taken))
+    let a = entry (at-loop k) .args in
+    let m = k .make-round in
+    over (a .tables .now) (a .limit) (a .allowance) (drop (a .front) (a .words .now)) (a .list .now) (l .list) (l .words) (l .old) (l .start) (l .state) (l .allowed) (l .used) (l .inv) (m .last .1 .1 .1 .1 .0) (m .last .1 .1 .1 .1 .1 .0) (m .last .1 .1 .0) (m .result) (round-at k) (m .kept .1 .1 .0) _ (c .before .ending .given .1)
 
-sub-room : tie.Need-sub-room Inv-loop μ-loop
-sub-room c = going (c .before .before .before .before .before .before .before .before) .used-low
-
-turn-requires : tie.Need-turn-requires Inv-loop μ-loop
-turn-requires c κs =
-    let k = c .before .before .before .before .before .before .before .before .before .before .before .before in
-    let g = going k in
-    let s = entry k in (
-      (s .pre .0 .0, s .pre .0 .1, s .pre .0 .2, omega (arith, g .count, s .fits .allowance), g .kept .undoable .old-long),
-      ((g .working, g .kept), g .quiet),
-    )
-
-enum-known-turned : tie.Need-enum-known-turned Inv-loop μ-loop
-enum-known-turned c = search needs
-
-same-length-6 : tie.Need-same-length-6 Inv-loop μ-loop
-same-length-6 c = going (at-steps (c .before .before .before .before .before .before .before .before .before .before .before)) .list-long
-
-same-length-7 : tie.Need-same-length-7 Inv-loop μ-loop
-same-length-7 c =
-    let t = c .before .before .before .before .before .before .before .before .before .before .before in
-    t .turn .kept .1 .1 .0 ∙ going (at-steps t) .working .held .left-long ∙ sym (entry (at-steps t) .pre .1 .0 .0 .held .left-long)
-
-same-length-8 : tie.Need-same-length-8 Inv-loop μ-loop
-same-length-8 c =
-    let t = c .before .before .before .before .before .before .before .before .before .before .before in
-    t .turn .kept .1 .1 .1 .0 ∙ going (at-steps t) .working .held .starts-long ∙ sym (entry (at-steps t) .pre .1 .0 .0 .held .starts-long)
-
-same-length-9 : tie.Need-same-length-9 Inv-loop μ-loop
-same-length-9 c =
-    let t = c .before .before .before .before .before .before .before .before .before .before .before in
-    t .turn .kept .1 .1 .1 .1 .0 ∙ going (at-steps t) .working .held .right-long ∙ sym (entry (at-steps t) .pre .1 .0 .0 .held .right-long)
-
-same-length-10 : tie.Need-same-length-10 Inv-loop μ-loop
-same-length-10 c =
-    let t = c .before .before .before .before .before .before .before .before .before .before .before in
-    t .turn .kept .1 .1 .1 .1 .1 .0 ∙ going (at-steps t) .kept .undoable .old-long ∙ sym (entry (at-steps t) .pre .0 .3)
-
-returns-2 : tie.Need-returns-2 Inv-loop μ-loop
-returns-2 c =
-    let k = at-steps (c .before .before .before .before .before .before .before .before .before .before .before) in
-    let a = entry k .args in
-    let l = at-loop k .loop in
-    let m = k .make-steps in
-    let t = c .before .before .before .before .before .before .before .before .before .before .before .turn in
-    done (a .tables .now) (a .limit) (a .allowance) (plan-in (a .left .now) (a .right .now) (a .state)) (a .list .now) (m .last .1 .1 .0) (l .left) (l .starts) (m .last .1 .1 .1 .1 .1 .1 .0) (m .last .1 .1 .1 .1 .1 .1 .1 .0) (m .result .state) (m .result .allowed) (m .result .used) (going k) (t .last .1 .1 .0) (t .last .1 .1 .1 .0) (t .last .1 .1 .1 .1 .0) (t .last .1 .1 .1 .1 .1 .0) _ _ (t .result) (t .ensures) (c .before .turned .given .1)
-
-enum-known-turned-2 : tie.Need-enum-known-turned-2 Inv-loop μ-loop
-enum-known-turned-2 c = search needs
-
-put-record-requires : tie.Need-put-record-requires Inv-loop μ-loop
-put-record-requires c κs = let h = went-on (c .before) in (h .room, omega (arith, h .low))
-
-sub-allowed : tie.Need-sub-allowed Inv-loop μ-loop
-sub-allowed c = went-on (c .before .before .before .before) .some-left
-
-add-used : tie.Need-add-used Inv-loop μ-loop
-add-used c =
-    let k = at-steps (turn-at (c .before .before .before .before)) in
-    omega (arith, went-on (c .before .before .before .before) .room, going k .list-long, entry k .good)
+enum-told : tie.Need-enum-told Inv-loop μ-loop
+enum-told c = search needs
 
 loop-less : tie.Need-loop-less Inv-loop μ-loop
 loop-less c =
-    let k = at-steps (turn-at (c .before .before .before .before)) in
-    omega (arith, went-on (c .before .before .before .before) .some-left, k .make-steps .ensures .fewer)
+    let k = followed c in
+    let l = at-loop k .loop in
+    let a = entry (at-loop k) .args in
+    let m = k .make-round in
+    fewer (a .tables .now) (a .limit) (a .allowance) (drop (a .front) (a .words .now)) (a .list .now) (l .list) (l .words) (l .old) (l .start) (l .state) (l .allowed) (l .used) (l .inv) (m .last .1 .1 .1 .1 .0) (m .last .1 .1 .1 .1 .1 .0) (m .last .1 .1 .0) (m .result) (round-at k) (m .kept .1 .1 .0) (c .enum-told .given .1)
 
 loop-again : tie.Need-loop-again Inv-loop μ-loop
 loop-again c =
-    let k = at-steps (turn-at (c .before .before .before .before)) in
-    let a = entry k .args in
+    let k = followed c in
     let l = at-loop k .loop in
-    let m = k .make-steps in
-    let t = turn-at (c .before .before .before .before) .turn in
-    goes-on (a .tables .now) (a .limit) (a .allowance) (plan-in (a .left .now) (a .right .now) (a .state)) (a .list .now) (m .last .1 .1 .0) (l .left) (l .starts) (m .last .1 .1 .1 .1 .1 .1 .0) (m .last .1 .1 .1 .1 .1 .1 .1 .0) (m .result .state) (m .result .allowed) (m .result .used) (going k) (t .last .1 .1 .0) (t .last .1 .1 .1 .0) (t .last .1 .1 .1 .1 .0) (t .last .1 .1 .1 .1 .1 .0) _ _ _ (c .before .before .put-record .last .0) (went-on (c .before .before .before .before)) (c .before .before .put-record .ensures) (c .before .before .put-record .kept .0)
+    let a = entry (at-loop k) .args in
+    let m = k .make-round in
+    after-round (a .tables .now) (a .limit) (a .allowance) (drop (a .front) (a .words .now)) (a .list .now) (l .list) (l .words) (l .old) (l .start) (l .state) (l .allowed) (l .used) (l .inv) (m .last .1 .1 .1 .1 .0) (m .last .1 .1 .1 .1 .1 .0) (m .last .1 .1 .0) (m .result) (round-at k) (m .kept .1 .1 .0)
 
 pub run-on-spec : {M : Type 1} → statement M
 run-on-spec =
@@ -182,26 +101,14 @@ run-on-spec =
     (tie.spec
     Inv-loop
     μ-loop
+    no-step-requires
     loop-holds
-    make-steps-requires
+    make-round-requires
+    enum-known-ending
     same-length
     same-length-2
     same-length-3
-    same-length-4
-    same-length-5
     returns
-    sub-room
-    turn-requires
-    enum-known-turned
-    same-length-6
-    same-length-7
-    same-length-8
-    same-length-9
-    same-length-10
-    returns-2
-    enum-known-turned-2
-    put-record-requires
-    sub-allowed
-    add-used
+    enum-told
     loop-less
     loop-again)

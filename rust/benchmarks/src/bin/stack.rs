@@ -5,12 +5,15 @@
 //! again, with the call's name and the stack's KiB. The thread's own beginning is counted with
 //! the call.
 
-use aberulwy::raw;
+use aberulwy::{raw, LONGEST_LISTING};
 use benchmarks::contenders::PROVED;
-use benchmarks::workloads::{long_sum, stopped_merges, Call, Places, Replay, STOPPED_CHAINS};
+use benchmarks::workloads::{
+    long_sum, stopped_merges, Places, Replay, Workload, MERGES, STOPPED_CHAINS,
+};
 use reference::plans::LONGEST_PLAN;
 use reference::stations::write_station;
 use reference::tables::{trial_tables, TABLES_LENGTH};
+use reference::unfolding::RECORD;
 use std::env::{args, current_exe};
 use std::process::{Command, Stdio};
 use std::thread::Builder;
@@ -19,14 +22,17 @@ use std::thread::Builder;
 const ENOUGH: usize = 4096;
 /// A thread that asks for less may get more, so less is not tried.
 const LITTLE: usize = 32;
-const CALLS: [&str; 7] = [
+const CALLS: [&str; 10] = [
     "judge_tables",
     "judge_plan",
     "is_basic",
     "count_orders",
     "unfold",
-    "check",
+    "unfold_checked",
+    "reached",
+    "check_rewriting",
     "read_station",
+    "list_station",
 ];
 
 fn main() {
@@ -86,14 +92,35 @@ fn prepared(call: &str) -> Box<dyn FnOnce() -> u8 + Send> {
             let mut unfolding = stopped_merges(STOPPED_CHAINS[1]);
             Box::new(move || unfolding.run(proved).0)
         }
-        "check" => {
+        "check_rewriting" => {
             let mut replay = Replay::new(LONGEST_PLAN, Places::Far, 400);
             Box::new(move || replay.run(proved).0)
         }
-        _ => {
+        "unfold_checked" => {
+            let unfolding = stopped_merges(STOPPED_CHAINS[1]);
+            let mut list = vec![0; RECORD * unfolding.steps];
+            let mut areas = [(); 4].map(|()| vec![0; LONGEST_PLAN]);
+            Box::new(move || {
+                let (tables, plan) = (&unfolding.tables, &unfolding.plan);
+                let [a, b, c, d] = areas.each_mut().map(|area| &mut area[..]);
+                let both = raw::unfold_checked(tables, plan, u32::MAX, &mut list, [a, b], [c, d]);
+                both.unfolded.number
+            })
+        }
+        "reached" => {
+            let mut area = vec![0; plan.len()];
+            Box::new(move || raw::reached(&plan, &[], 0, plan.len(), &mut area).number)
+        }
+        "read_station" => {
             let file = write_station(&tables, &plan);
             let (mut a, mut b) = (vec![0; TABLES_LENGTH], vec![0; LONGEST_PLAN]);
             Box::new(move || raw::read_station(&file, &mut a, &mut b).number)
         }
+        "list_station" => {
+            let file = write_station(&tables, &MERGES[0].plan(2, 20));
+            let mut out = vec![0; LONGEST_LISTING];
+            Box::new(move || raw::list_station(&file, &mut out).number)
+        }
+        _ => panic!("no call {call}"),
     }
 }

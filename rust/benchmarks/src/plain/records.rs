@@ -19,6 +19,11 @@ impl Records<'_> {
         }
     }
 
+    /// How many steps are recorded.
+    pub fn steps(&self) -> usize {
+        self.steps
+    }
+
     /// Why no step can be recorded: 34, or 35.
     pub fn full(&self) -> Option<u8> {
         if self.steps == self.allowance {
@@ -35,7 +40,7 @@ impl Records<'_> {
     }
 
     /// Fills the rest of the list with zeros.
-    pub fn close(self) {
+    pub fn close(&mut self) {
         self.list[RECORD * self.steps..].fill(0);
     }
 }

@@ -2,7 +2,7 @@
 use Prim.Native.Nat.{_+_, _*_, _-_, _≤_}
 use mathlib.Core.List.{_++_}
 use lib.ListN.{length, getD}
-use Rattle.steps.specs.Records.{moves-of}
+use Rattle.rewritings.specs.Records.{moves-of}
 use Rattle.listing.specs.Listing.{step-line, step-lines}
 use Rattle.listing.proofs.Lengths.{steps-short}
 use Rattle.listing.proofs.Turns.{steps-left, steps-turn, steps-end}

@@ -1,0 +1,3 @@
+mod Answers
+mod Numbers
+mod Seen

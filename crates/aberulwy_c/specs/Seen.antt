@@ -1,0 +1,68 @@
+-- What is claimed of the calls for C and Rust: the claims of the calls below, of the answer that the numbers seen tell. (Demands 2 and 3.)
+use Prim.Native.Nat.{ℕ, _≤_}
+use mathlib.Core.List.{List}
+use Rattle.refusals.specs.declared.Refusal.{Refusal}
+use Rattle.refusals.specs.Refusal.{printed}
+use Rattle.unfolding.specs.declared.Unfolded.{Unfolded}
+use Rattle.unfolding.specs.declared.Unfolded.the-variants.{Finished, Stopped, Refused as Not-unfolded}
+use Rattle.checking.specs.declared.Checked.{Checked}
+use Rattle.checking.specs.declared.Checked.the-variants.{Accepted, TurnedBack, Refused as Not-checked}
+use Rattle.demands.specs.Claims.{UnfoldGiven, CheckGiven, UnfoldClaims, CheckClaims, StepClaims}
+use Rattle.aberulwy.specs.declared.OwnCheck.{OwnCheck}
+use Rattle.aberulwy.specs.declared.OwnCheck.the-variants.{Checked as Checked-as, NotChecked}
+use Rattle.aberulwy.specs.Rewriting.{OwnAccepted}
+
+-- An unfolding's answer by the number answered and the place, steps and size set: 0 is finished, 34 to 36 are the endings, 1 to 18 are refusals.
+pub data UnfoldedAs : Unfolded → ℕ → ℕ → ℕ → ℕ → Type 0 where
+  finished : (steps size : ℕ) → UnfoldedAs (Finished steps size) 0 0 steps size
+  stopped : (number steps size : ℕ) → 34 ≤ number → number ≤ 36 → UnfoldedAs (Stopped number steps size) number 0 steps size
+  refused : (f : Refusal) → 1 ≤ f .number → f .number ≤ 18 → UnfoldedAs (Not-unfolded f) (f .number) (printed (f .place)) 0 0
+
+-- A check's answer by the same numbers: 0 is accepted, 31 to 33 say how far it had come, 1 to 18 are refusals.
+pub data CheckedAs : Checked → ℕ → ℕ → ℕ → ℕ → Type 0 where
+  accepted : (steps size : ℕ) → CheckedAs (Accepted steps size) 0 0 steps size
+  turned-back : (number steps size : ℕ) → 31 ≤ number → number ≤ 33 → CheckedAs (TurnedBack number steps size) number 0 steps size
+  refused : (f : Refusal) → 1 ≤ f .number → f .number ≤ 18 → CheckedAs (Not-checked f) (f .number) (printed (f .place)) 0 0
+
+-- The check of an unfolding's own rewriting by whether it was made, then the same numbers.
+pub data OwnAs : OwnCheck → ℕ → ℕ → ℕ → ℕ → ℕ → Type 0 where
+  made : (answer : Checked) (number place steps size : ℕ) → CheckedAs answer number place steps size → OwnAs (Checked-as answer) 1 number place steps size
+  not-made : OwnAs NotChecked 0 0 0 0 0
+
+-- Of an unfolding that left these bytes: what is claimed of it holds of the answer seen.
+pub record UnfoldSeen (given : UnfoldGiven) (list a b : List ℕ) (number place steps size : ℕ) : Type 0 where
+  pub answer : Unfolded
+  pub seen : UnfoldedAs answer number place steps size
+  pub claims : UnfoldClaims given (record { answer = answer; list = list; a = a; b = b })
+
+-- Of a check.
+pub record CheckSeen (given : CheckGiven) (number place steps size : ℕ) : Type 0 where
+  pub answer : Checked
+  pub seen : CheckedAs answer number place steps size
+  pub claims : CheckClaims (given .tables) (given .start) (given .claimed) answer
+
+-- Of a check of a single step that left these areas.
+pub record StepSeen (given : CheckGiven) (a b : List ℕ) (number place steps size : ℕ) : Type 0 where
+  pub answer : Checked
+  pub seen : CheckedAs answer number place steps size
+  pub claims : StepClaims given (record { answer = answer; a = a; b = b })
+
+-- The numbers that an unfolding with the check of its own rewriting answers and sets.
+pub record BothNumbers : Type 0 where
+  pub number : ℕ
+  pub place : ℕ
+  pub steps : ℕ
+  pub size : ℕ
+  pub checked : ℕ
+  pub own-number : ℕ
+  pub own-place : ℕ
+  pub own-steps : ℕ
+  pub own-size : ℕ
+
+-- Of that unfolding, by the areas given: the check of its own rewriting accepts.
+pub record OwnSeen (a b c d : List ℕ) (n : BothNumbers) : Type 0 where
+  pub unfolded : Unfolded
+  pub own : OwnCheck
+  pub seen : UnfoldedAs unfolded (n .number) (n .place) (n .steps) (n .size)
+  pub own-seen : OwnAs own (n .checked) (n .own-number) (n .own-place) (n .own-steps) (n .own-size)
+  pub accepts : OwnAccepted unfolded own a b c d

@@ -1,0 +1,353 @@
+// The public calls for C and Rust: numbers and byte slices only. Each answers document 01's number and sets every out number; the two that only
+// hand bytes over, `aberulwy_reached` and `aberulwy_list_station`, answer 0, or 1 where the area is too short. Beside `whole` and `areas`, further
+// clauses say what is claimed of a call by the numbers that it answers and sets and the bytes that it leaves.
+use aberulwy::BasicAnswer;
+use aberulwy::OrdersAnswer;
+use aberulwy::OwnCheck;
+use checking::Checked;
+use listing::Listed;
+use refusals::Judgement;
+use refusals::Refusal;
+use stations::StationRead;
+use unfolding::Unfolded;
+ghost use mathlib.Core.Path.{_≡_};
+ghost use mathlib.Core.List.{_∷_, []};
+ghost use mathlib.Core.Logic.{_↔_};
+ghost use Prim.Native.Nat.{_≤_};
+ghost use lib.ListN.{length};
+ghost use Rattle.refusals.specs.Refusal.{printed, reported};
+ghost use Rattle.tables.specs.Tables.{actions};
+ghost use Rattle.tables.specs.Judging.{table-refusal};
+ghost use Rattle.tables.specs.Lawful.{Lawful};
+ghost use Rattle.plans.specs.Judging.{plan-refusal};
+ghost use Rattle.plans.specs.Accepted.{AcceptedPlan, BasicPlan};
+ghost use Rattle.plans.specs.Basic.{basic-words?, orders-of};
+ghost use Rattle.stations.specs.File.{plan-held, file-refusal, station-outcome};
+ghost use Rattle.areas.specs.Reached.{capacity, even?};
+ghost use Rattle.unfolding.specs.Unfolding.{run-of, unfold-refusal, unfold-outcome};
+ghost use Rattle.checking.specs.Checking.{replay-of, check-refusal, check-outcome};
+ghost use Rattle.aberulwy.specs.Judging.{bit};
+ghost use Rattle.areas.specs.Reached.{reached-part};
+ghost use Rattle.aberulwy.specs.Rewriting.{unfold-report, check-report, own-report, reported-run, reported-replay, reported-own, both-outcome};
+ghost use Rattle.listing.specs.Listing.{listing};
+ghost use Rattle.listing.specs.Writing.{most};
+ghost use Rattle.listing.specs.Endings.{Endings};
+ghost use Rattle.aberulwy_c.specs.Answers.{Answered, MaybeAnswered, HandedOver, handed-over};
+ghost use Rattle.aberulwy_c.specs.Seen.{UnfoldSeen, CheckSeen, StepSeen, OwnSeen};
+
+// Answers a refusal's number and sets its place.
+fn refuse(refusal: Refusal, place: &mut usize) -> u8
+    ensures { λ r. ⌜ (r ≡ refusal .number) × (now (place .exit) ≡ printed (refusal .place)) ⌝ }
+{
+    let number = refusal.number;
+    let at = refusal.place;
+    *place = refusals::print_place(at);
+    number
+}
+
+// Answers the number of an unfolding's answer and sets its values and its place.
+fn hand_unfolded(answer: Unfolded, steps: &mut usize, size: &mut usize, place: &mut usize) -> u8
+    ensures { λ r. ⌜ Answered (unfold-report answer) r (now (place .exit)) (now (steps .exit)) (now (size .exit)) ⌝ }
+{
+    *steps = 0;
+    *size = 0;
+    *place = 0;
+    match answer {
+        Unfolded::Finished {
+            steps: made,
+            size: reached,
+        } => {
+            *steps = made;
+            *size = reached;
+            0
+        }
+        Unfolded::Stopped {
+            number: stop,
+            steps: before,
+            size: left,
+        } => {
+            *steps = before;
+            *size = left;
+            stop
+        }
+        Unfolded::Refused(refusal) => refuse(refusal, place),
+    }
+}
+
+// Answers the number of a check's answer and sets its values and its place.
+fn hand_checked(answer: Checked, steps: &mut usize, size: &mut usize, place: &mut usize) -> u8
+    ensures { λ r. ⌜ Answered (check-report answer) r (now (place .exit)) (now (steps .exit)) (now (size .exit)) ⌝ }
+{
+    *steps = 0;
+    *size = 0;
+    *place = 0;
+    match answer {
+        Checked::Accepted {
+            steps: followed,
+            size: held,
+        } => {
+            *steps = followed;
+            *size = held;
+            0
+        }
+        Checked::TurnedBack {
+            number: fault,
+            steps: followed,
+            size: held,
+        } => {
+            *steps = followed;
+            *size = held;
+            fault
+        }
+        Checked::Refused(refusal) => refuse(refusal, place),
+    }
+}
+
+// Says whether an unfolding's own rewriting was checked, and sets the numbers of that check, zeros where it was not.
+fn hand_own(
+    own: OwnCheck,
+    checked: &mut usize,
+    number: &mut usize,
+    steps: &mut usize,
+    size: &mut usize,
+    place: &mut usize,
+)
+    ensures { λ r. ⌜ MaybeAnswered (own-report own) (now (checked .exit)) (now (number .exit)) (now (place .exit)) (now (steps .exit)) (now (size .exit)) ⌝ }
+{
+    match own {
+        OwnCheck::Checked(answer) => {
+            *checked = 1;
+            let said = hand_checked(answer, steps, size, place);
+            *number = said as usize;
+        }
+        OwnCheck::NotChecked => {
+            *checked = 0;
+            *number = 0;
+            *steps = 0;
+            *size = 0;
+            *place = 0;
+        }
+    }
+}
+
+// Hands bytes over in an area, with zeros behind, and sets their length; or answers 1 where the area is too short, which then keeps its bytes.
+fn hand_over(bytes: &[u8], out: &mut [u8], size: &mut usize) -> u8
+    ensures { λ r. ⌜ _≡_ {A = HandedOver} (record { number = r; size = now (size .exit); out = now (out .exit) }) (handed-over (now (bytes .entry)) (now (out .entry))) ⌝ }
+{
+    *size = 0;
+    if out.len() < bytes.len() {
+        return 1;
+    }
+    let end = areas::copy_in(bytes, &mut *out, 0);
+    areas::clear_from(out, end);
+    *size = end;
+    0
+}
+
+// Judges tables: 0 where they are accepted, or the number of the refusal and its place.
+#[no_mangle]
+pub extern "C" fn aberulwy_judge_tables(tables: &[u8], place: &mut usize) -> u8
+    ensures whole { λ r. ⌜ Answered (reported (table-refusal (now (tables .entry))) []) r (now (place .exit)) 0 0 ⌝ }
+    ensures accepts { λ r. ⌜ ((r ≡ 0) ↔ Lawful (now (tables .entry))) ⌝ }
+{
+    *place = 0;
+    match aberulwy::judge_tables(tables) {
+        Judgement::Accepted => 0,
+        Judgement::Refused(refusal) => refuse(refusal, place),
+    }
+}
+
+// Judges tables and then a plan: 0 where both are accepted, or the number of the refusal and its place.
+#[no_mangle]
+pub extern "C" fn aberulwy_judge_plan(tables: &[u8], plan: &[u8], place: &mut usize) -> u8
+    ensures whole { λ r. ⌜ Answered (reported (plan-refusal (now (tables .entry)) (now (plan .entry))) []) r (now (place .exit)) 0 0 ⌝ }
+    ensures accepts { λ r. ⌜ ((r ≡ 0) ↔ AcceptedPlan (now (tables .entry)) (now (plan .entry))) ⌝ }
+{
+    *place = 0;
+    match aberulwy::judge_plan(tables, plan) {
+        Judgement::Accepted => 0,
+        Judgement::Refused(refusal) => refuse(refusal, place),
+    }
+}
+
+// Asks whether a plan is basic: 0, with `basic` 1 where it is and 0 where it is not; or the number of the refusal and its place.
+#[no_mangle]
+pub extern "C" fn aberulwy_is_basic(
+    tables: &[u8],
+    plan: &[u8],
+    basic: &mut usize,
+    place: &mut usize,
+) -> u8
+    ensures whole { λ r. ⌜ Answered (reported (plan-refusal (now (tables .entry)) (now (plan .entry))) (bit (basic-words? (actions (now (tables .entry))) (now (plan .entry))) ∷ [])) r (now (place .exit)) (now (basic .exit)) 0 ⌝ }
+    ensures accepts { λ r. ⌜ ((now (basic .exit) ≡ 1) ↔ BasicPlan (now (tables .entry)) (now (plan .entry))) ⌝ }
+{
+    *basic = 0;
+    *place = 0;
+    match aberulwy::is_basic(tables, plan) {
+        BasicAnswer::Yes => {
+            *basic = 1;
+            0
+        }
+        BasicAnswer::No => 0,
+        BasicAnswer::Refused(refusal) => refuse(refusal, place),
+    }
+}
+
+// Counts the orders of a basic plan: 0, with the count in `orders`, which is 0 for a plan that is not basic; or the number of the refusal and its
+// place.
+#[no_mangle]
+pub extern "C" fn aberulwy_count_orders(
+    tables: &[u8],
+    plan: &[u8],
+    orders: &mut usize,
+    place: &mut usize,
+) -> u8
+    ensures whole { λ r. ⌜ Answered (reported (plan-refusal (now (tables .entry)) (now (plan .entry))) (orders-of (actions (now (tables .entry))) (now (plan .entry)) ∷ [])) r (now (place .exit)) (now (orders .exit)) 0 ⌝ }
+{
+    *orders = 0;
+    *place = 0;
+    match aberulwy::count_orders(tables, plan) {
+        OrdersAnswer::Count(k) => {
+            *orders = k;
+            0
+        }
+        OrdersAnswer::Refused(refusal) => refuse(refusal, place),
+    }
+}
+
+// Unfolds a plan: 0 at its end, or 34 to 36, with the steps made and the length of the plan reached; or the number of the refusal and its place.
+#[no_mangle]
+pub extern "C" fn aberulwy_unfold(
+    tables: &[u8],
+    plan: &[u8],
+    allowance: u32,
+    list: &mut [u8],
+    a: &mut [u8],
+    b: &mut [u8],
+    steps: &mut usize,
+    size: &mut usize,
+    place: &mut usize,
+) -> u8
+    ensures whole { λ r. ⌜ Answered (reported-run (unfold-refusal (now (tables .entry)) (now (plan .entry)) (capacity (now (a .entry)) (now (b .entry)))) (run-of (now (tables .entry)) (now (plan .entry)) allowance (length (now (list .entry))) (capacity (now (a .entry)) (now (b .entry))))) r (now (place .exit)) (now (steps .exit)) (now (size .exit)) ⌝ }
+    ensures areas { λ r. ⌜ (now (list .exit) ≡ unfold-outcome (now (tables .entry)) (now (plan .entry)) allowance (now (list .entry)) (now (a .entry)) (now (b .entry)) .list) × (now (a .exit) ≡ unfold-outcome (now (tables .entry)) (now (plan .entry)) allowance (now (list .entry)) (now (a .entry)) (now (b .entry)) .a) × (now (b .exit) ≡ unfold-outcome (now (tables .entry)) (now (plan .entry)) allowance (now (list .entry)) (now (a .entry)) (now (b .entry)) .b) ⌝ }
+    ensures claims { λ r. ⌜ UnfoldSeen (record { tables = now (tables .entry); plan = now (plan .entry); allowance = allowance; list = now (list .entry); a = now (a .entry); b = now (b .entry) }) (now (list .exit)) (now (a .exit)) (now (b .exit)) r (now (place .exit)) (now (steps .exit)) (now (size .exit)) ⌝ }
+{
+    let answer = aberulwy::unfold(tables, plan, allowance, list, a, b);
+    hand_unfolded(answer, steps, size, place)
+}
+
+// Unfolds a plan, then checks the unfolding's own rewriting in areas c and d. The number answered, `steps`, `size` and `place` are those of
+// `aberulwy_unfold`; `checked` is 1 where a check was made, and 0 where the unfolding was refused; `own_number`, `own_steps`, `own_size` and
+// `own_place` are what `aberulwy_check_rewriting` would say of it, zeros where none was made.
+#[no_mangle]
+pub extern "C" fn aberulwy_unfold_checked(
+    tables: &[u8],
+    plan: &[u8],
+    allowance: u32,
+    list: &mut [u8],
+    a: &mut [u8],
+    b: &mut [u8],
+    c: &mut [u8],
+    d: &mut [u8],
+    steps: &mut usize,
+    size: &mut usize,
+    place: &mut usize,
+    checked: &mut usize,
+    own_number: &mut usize,
+    own_steps: &mut usize,
+    own_size: &mut usize,
+    own_place: &mut usize,
+) -> u8
+    ensures whole { λ r. ⌜ Answered (reported-run (unfold-refusal (now (tables .entry)) (now (plan .entry)) (capacity (now (a .entry)) (now (b .entry)))) (run-of (now (tables .entry)) (now (plan .entry)) allowance (length (now (list .entry))) (capacity (now (a .entry)) (now (b .entry))))) r (now (place .exit)) (now (steps .exit)) (now (size .exit)) ⌝ }
+    ensures own { λ r. ⌜ MaybeAnswered (reported-own (unfold-refusal (now (tables .entry)) (now (plan .entry)) (capacity (now (a .entry)) (now (b .entry)))) (now (tables .entry)) (now (plan .entry)) (run-of (now (tables .entry)) (now (plan .entry)) allowance (length (now (list .entry))) (capacity (now (a .entry)) (now (b .entry)))) (capacity (now (c .entry)) (now (d .entry)))) (now (checked .exit)) (now («own_number» .exit)) (now («own_place» .exit)) (now («own_steps» .exit)) (now («own_size» .exit)) ⌝ }
+    ensures areas { λ r. ⌜ (now (list .exit) ≡ both-outcome (now (tables .entry)) (now (plan .entry)) allowance (now (list .entry)) (now (a .entry)) (now (b .entry)) (now (c .entry)) (now (d .entry)) .unfolded .list) × (now (a .exit) ≡ both-outcome (now (tables .entry)) (now (plan .entry)) allowance (now (list .entry)) (now (a .entry)) (now (b .entry)) (now (c .entry)) (now (d .entry)) .unfolded .a) × (now (b .exit) ≡ both-outcome (now (tables .entry)) (now (plan .entry)) allowance (now (list .entry)) (now (a .entry)) (now (b .entry)) (now (c .entry)) (now (d .entry)) .unfolded .b) × (now (c .exit) ≡ both-outcome (now (tables .entry)) (now (plan .entry)) allowance (now (list .entry)) (now (a .entry)) (now (b .entry)) (now (c .entry)) (now (d .entry)) .own .a) × (now (d .exit) ≡ both-outcome (now (tables .entry)) (now (plan .entry)) allowance (now (list .entry)) (now (a .entry)) (now (b .entry)) (now (c .entry)) (now (d .entry)) .own .b) ⌝ }
+    ensures claims { λ r. ⌜ UnfoldSeen (record { tables = now (tables .entry); plan = now (plan .entry); allowance = allowance; list = now (list .entry); a = now (a .entry); b = now (b .entry) }) (now (list .exit)) (now (a .exit)) (now (b .exit)) r (now (place .exit)) (now (steps .exit)) (now (size .exit)) ⌝ }
+    ensures accepted { λ r. ⌜ OwnSeen (now (a .entry)) (now (b .entry)) (now (c .entry)) (now (d .entry)) (record { number = r; place = now (place .exit); steps = now (steps .exit); size = now (size .exit); checked = now (checked .exit); own-number = now («own_number» .exit); own-place = now («own_place» .exit); own-steps = now («own_steps» .exit); own-size = now («own_size» .exit) }) ⌝ }
+{
+    let both = aberulwy::unfold_checked(tables, plan, allowance, list, a, b, c, d);
+    let unfolded = both.unfolded;
+    let own = both.own;
+    hand_own(own, checked, own_number, own_steps, own_size, own_place);
+    hand_unfolded(unfolded, steps, size, place)
+}
+
+// Copies the plan reached, after so many steps and of so many words, out of area A or B, with zeros behind it: 0 and its length; or 1 and 0 where
+// the area is too short, which then keeps its bytes.
+#[no_mangle]
+pub extern "C" fn aberulwy_reached<'a>(
+    a: &'a [u8],
+    b: &'a [u8],
+    steps: usize,
+    size: usize,
+    plan: &mut [u8],
+    copied: &mut usize,
+) -> u8
+    ensures whole { λ r. ⌜ _≡_ {A = HandedOver} (record { number = r; size = now (copied .exit); out = now (plan .exit) }) (handed-over (reached-part (even? steps) size (now (a .entry)) (now (b .entry))) (now (plan .entry))) ⌝ }
+{
+    let part = aberulwy::reached(a, b, steps, size);
+    hand_over(part, plan, copied)
+}
+
+// Checks a rewriting: 0 where it is accepted, or 31 to 33, with the steps made and the length of the plan reached; or the number of the refusal
+// and its place.
+#[no_mangle]
+pub extern "C" fn aberulwy_check_rewriting(
+    tables: &[u8],
+    start: &[u8],
+    claimed: &[u8],
+    rewriting: &[u8],
+    a: &mut [u8],
+    b: &mut [u8],
+    steps: &mut usize,
+    size: &mut usize,
+    place: &mut usize,
+) -> u8
+    ensures whole { λ r. ⌜ Answered (reported-replay (check-refusal (now (tables .entry)) (now (start .entry)) (now (claimed .entry)) (now (rewriting .entry)) (capacity (now (a .entry)) (now (b .entry)))) (replay-of (now (tables .entry)) (now (start .entry)) (now (claimed .entry)) (now (rewriting .entry)) (capacity (now (a .entry)) (now (b .entry))))) r (now (place .exit)) (now (steps .exit)) (now (size .exit)) ⌝ }
+    ensures areas { λ r. ⌜ (now (a .exit) ≡ check-outcome (now (tables .entry)) (now (start .entry)) (now (claimed .entry)) (now (rewriting .entry)) (now (a .entry)) (now (b .entry)) .a) × (now (b .exit) ≡ check-outcome (now (tables .entry)) (now (start .entry)) (now (claimed .entry)) (now (rewriting .entry)) (now (a .entry)) (now (b .entry)) .b) ⌝ }
+    ensures claims { λ r. ⌜ CheckSeen (record { tables = now (tables .entry); start = now (start .entry); claimed = now (claimed .entry); rewriting = now (rewriting .entry); a = now (a .entry); b = now (b .entry) }) r (now (place .exit)) (now (steps .exit)) (now (size .exit)) ⌝ }
+    ensures single { λ r. ⌜ StepSeen (record { tables = now (tables .entry); start = now (start .entry); claimed = now (claimed .entry); rewriting = now (rewriting .entry); a = now (a .entry); b = now (b .entry) }) (now (a .exit)) (now (b .exit)) r (now (place .exit)) (now (steps .exit)) (now (size .exit)) ⌝ }
+{
+    let answer = aberulwy::check_rewriting(tables, start, claimed, rewriting, a, b);
+    hand_checked(answer, steps, size, place)
+}
+
+// Reads a station file into a tables area and a plan area: 0 with the plan's length; or the number of the refusal and its place.
+#[no_mangle]
+pub extern "C" fn aberulwy_read_station(
+    file: &[u8],
+    tables: &mut [u8],
+    plan: &mut [u8],
+    size: &mut usize,
+    place: &mut usize,
+) -> u8
+    ensures whole { λ r. ⌜ Answered (reported (file-refusal (now (file .entry)) (length (now (tables .entry))) (length (now (plan .entry)))) (length (plan-held (now (file .entry))) ∷ [])) r (now (place .exit)) (now (size .exit)) 0 ⌝ }
+    ensures areas { λ r. ⌜ (now (tables .exit) ≡ station-outcome (now (file .entry)) (now (tables .entry)) (now (plan .entry)) .tables) × (now (plan .exit) ≡ station-outcome (now (file .entry)) (now (tables .entry)) (now (plan .entry)) .plan) ⌝ }
+{
+    *size = 0;
+    *place = 0;
+    match aberulwy::read_station(file, tables, plan) {
+        StationRead::Read { size: read } => {
+            *size = read;
+            0
+        }
+        StationRead::Refused(refusal) => refuse(refusal, place),
+    }
+}
+
+// Lists a station file, everything that the program prints for it, with zeros behind it: 0 and its length; or 1 and 0 where the area is too
+// short, which then keeps its bytes. No listing is longer than 93,000 bytes.
+#[no_mangle]
+pub extern "C" fn aberulwy_list_station(file: &[u8], out: &mut [u8], size: &mut usize) -> u8
+    ensures whole { λ r. ⌜ _≡_ {A = HandedOver} (record { number = r; size = now (size .exit); out = now (out .exit) }) (handed-over (listing (now (file .entry))) (now (out .entry))) ⌝ }
+    ensures bounded { λ r. ⌜ length (listing (now (file .entry))) ≤ most ⌝ }
+    ensures endings { λ r. ⌜ Endings (now (file .entry)) ⌝ }
+{
+    *size = 0;
+    match listing::list_station(file, out) {
+        Listed::Whole(length) => {
+            *size = length;
+            0
+        }
+        Listed::Short => 1,
+    }
+}

@@ -1,0 +1,7 @@
+pub mod Cutting
+pub mod Bytes
+mod Numbers
+pub mod Finding
+pub mod Choosing
+pub mod Prefixes
+pub mod Quiet
