@@ -15,7 +15,8 @@ use Rattle.areas.specs.Reached.{capacity, even?, reached-part}
 use Rattle.rewritings.specs.Records.{bytes-of}
 use Rattle.unfolding.specs.declared.Unfolded.{Unfolded}
 use Rattle.unfolding.specs.declared.Unfolded.the-variants.{Finished, Stopped, Refused as Not-unfolded}
-use Rattle.unfolding.specs.Unfolding.{Run, run-of, unfolded, unfold-refusal, unfold-outcome, UnfoldOutcome}
+use Rattle.rewritings.specs.Runs.{Run, run-of}
+use Rattle.unfolding.specs.Unfolding.{unfolded, unfold-refusal, unfold-outcome, UnfoldOutcome}
 use Rattle.unfolding.specs.Unfolding as unfolding-of
 use Rattle.checking.specs.declared.Checked.{Checked}
 use Rattle.checking.specs.declared.Checked.the-variants.{Accepted, TurnedBack}

@@ -11,7 +11,8 @@ use Rattle.refusals.specs.declared.Refusal.{Refusal}
 use Rattle.refusals.specs.Refusal.{Report, refused-report}
 use Rattle.unfolding.specs.declared.Unfolded.{Unfolded}
 use Rattle.unfolding.specs.declared.Unfolded.the-variants.{Finished, Stopped, Refused as Not-unfolded}
-use Rattle.unfolding.specs.Unfolding.{Run, unfold-outcome, UnfoldOutcome}
+use Rattle.rewritings.specs.Runs.{Run}
+use Rattle.unfolding.specs.Unfolding.{unfold-outcome, UnfoldOutcome}
 use Rattle.checking.specs.declared.Checked.{Checked}
 use Rattle.checking.specs.declared.Checked.the-variants.{Accepted, TurnedBack, Refused as Not-checked}
 use Rattle.checking.specs.Checking.{Replay, replay-of, check-refusal, check-outcome, CheckOutcome}

@@ -8,6 +8,7 @@ use mathlib.Core.Option.{Option, none, some}
 use lib.ListN.{length}
 use lib.Dec.{eqb, leb, ltb}
 use borrow.Author.Tests.{leb-true}
+use Rattle.areas.specs.Area.{most-words}
 use Rattle.refusals.specs.declared.Place.{Place}
 use Rattle.refusals.specs.declared.Place.the-variants.{Nowhere, Byte, Triple, Step}
 use Rattle.refusals.specs.declared.Refusal.{Refusal}
@@ -137,7 +138,7 @@ low-from n p d (w ∷ ws) = go (no-word? (word-of n w)) (ltb d (operands-of w)) 
 
 low-words : (n : ℕ) (ws : List ℕ) → low? (words-refusal n ws) ≡ true
 unfolding words-refusal
-low-words n ws = low-cond (eqb (length ws) 0 || ltb 16384 (length ws)) (refuse 11 Nowhere) (refusal-from n 0 0 ws) refl (low-from n 0 0 ws)
+low-words n ws = low-cond (eqb (length ws) 0 || ltb most-words (length ws)) (refuse 11 Nowhere) (refusal-from n 0 0 ws) refl (low-from n 0 0 ws)
 
 pub low-plan : (t : Tables) (ws : List ℕ) → low? (plan-refusal t ws) ≡ true
 unfolding plan-refusal

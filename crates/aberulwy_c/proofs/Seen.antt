@@ -21,7 +21,8 @@ use Rattle.plans.specs.Accepted.{AcceptedPlan, BasicPlan}
 use Rattle.plans.proofs.Accepted.{accepted-plan, basic-plan}
 use Rattle.unfolding.specs.declared.Unfolded.{Unfolded}
 use Rattle.unfolding.specs.declared.Unfolded.the-variants.{Finished, Stopped, Refused as Not-unfolded}
-use Rattle.unfolding.specs.Unfolding.{Run, run-of, unfold-refusal, unfold-outcome, UnfoldOutcome}
+use Rattle.rewritings.specs.Runs.{Run, run-of}
+use Rattle.unfolding.specs.Unfolding.{unfold-refusal, unfold-outcome, UnfoldOutcome}
 use Rattle.unfolding.specs.Unfolding as unfolding-of
 use Rattle.checking.specs.declared.Checked.{Checked}
 use Rattle.checking.specs.declared.Checked.the-variants.{Accepted, TurnedBack, Refused as Not-checked}

@@ -4,7 +4,7 @@ use mathlib.Core.Path.{_≡_, sym, _∙_, ap}
 use mathlib.Core.List.{List, [], _∷_, _++_, append-assoc, append-nil}
 use native.Mathlib.Omega.{arith}
 use native.Mathlib.Numerals.{add-one}
-use lib.ListN.{length, getD, set, take, drop, replicate, length-append, length-drop, replicate-append-replicate, take-append-drop}
+use lib.ListN.{length, getD, set, take, drop, replicate, length-append, length-drop, drop-of-length-le, replicate-append-replicate, take-append-drop}
 use lib.Seq.{paste, paste-suc, set-split, take-length, take-all, take-suc-set, length-take-le, take-at, drop-at, drop-drop, drop-append-seam}
 use Rattle.areas.specs.Area.{overwrite, padded}
 
@@ -47,6 +47,11 @@ take-overwrite d k v h =
 pub drop-overwrite : (d : List ℕ) (k : ℕ) (v : List ℕ) → k ≤ length d → drop k (overwrite d k v) ≡ v ++ drop (k + length v) d
 unfolding overwrite
 drop-overwrite d k v h = drop-at (take k d) (v ++ drop (k + length v) d) k (length-take-le k d h)
+
+-- words written up to the end of an area
+pub end-written : (d : List ℕ) (k : ℕ) (v : List ℕ) → k + length v ≡ length d → drop k (overwrite d k v) ≡ v
+end-written d k v h =
+    drop-overwrite d k v (omega arith) ∙ ap (λ (z : List ℕ). v ++ z) (drop-of-length-le d {i = k + length v} (omega arith)) ∙ append-nil v
 
 -- words written one after another
 pub overwrite-two : (d : List ℕ) (k : ℕ) (v w : List ℕ) → k + (length v + length w) ≤ length d

@@ -2,9 +2,9 @@
 use Prim.Native.Nat.{ℕ, suc, _+_, _-_, _≤_, _<_}
 use native.Mathlib.Omega.{arith}
 use native.Mathlib.Numerals.{add-one}
-use mathlib.Core.Path.{_≡_, refl, sym, _∙_, subst}
+use mathlib.Core.Path.{_≡_, refl, sym, _∙_}
 use mathlib.Core.List.{List, [], _∷_, _++_, append-nil, append-assoc}
-use lib.ListN.{length, getD, set, take, drop, length-append, length-drop, length-set, drop-of-length-le}
+use lib.ListN.{length, getD, set, take, drop, length-append, length-drop, length-set}
 use lib.Seq.{length-take-le, take-at, drop-at, take-suc, drop-cons, take-add, take-all, take-suc-set, set-split, getD-set-same, getD-set-other}
 use borrow.Author.Count.{below-more}
 use Rattle.areas.specs.Area.{overwrite, most-words}
@@ -14,19 +14,12 @@ use Rattle.areas.specs.declared.StepState.{StepState}
 use Rattle.areas.specs.Reached.{even?}
 use Rattle.areas.specs.Storing.{stepped, before, Kept}
 use Rattle.areas.proofs.Storing as storing
-use Rattle.buffer.specs.declared.State.{State}
 use Rattle.buffer.specs.Buffer.{whole, Held}
-use Rattle.buffer.specs.Moves.{Gap, Shifted}
+use Rattle.buffer.specs.Moves.{Gap}
 use Rattle.plans.proofs.Start.{start-prefix, start-take}
 
 pub held-gap : {n : ℕ} {left starts right : List ℕ} {read rest : ℕ} → Held n left starts right read rest → Gap left right read rest
 held-gap h = record { left-long = h .left-long; right-long = h .right-long; rest-in = h .rest-in; apart = h .apart }
-
--- words written up to the end
-pub drop-end : (d w : List ℕ) (m : ℕ) → length d ≡ m → length w ≤ m → drop (m - length w) (overwrite d (m - length w) w) ≡ w
-drop-end d w m e h =
-    let k : length d ≤ m - length w + length w = omega arith in
-    rw (drop-overwrite d (m - length w) w (omega arith), drop-of-length-le d k) (append-nil w)
 
 -- nothing is read of a plan just loaded
 pub held-loaded : (n : ℕ) (left starts right : List ℕ) (rest : ℕ) → length left ≡ most-words → length starts ≡ most-words → length right ≡ most-words → rest ≤ most-words
@@ -166,11 +159,3 @@ module _ (left right side : List ℕ) (read rest start : ℕ) (g : Gap left righ
     kept-step c fits =
         storing.kept-step (take start left) gone side (drop rest right) old s start (read - start) (length side) (length-take-le start left (omega arith)) gone-long refl kept c
         (rw gone-back fits)
-
--- the same said of the state that a move answers
-module _ {left right left′ right′ : List ℕ} {s r : State} {read rest : ℕ} (m : Shifted left right left′ right′ s r read rest) where
-  pub shifted-plan : whole left′ right′ (r .read) (r .rest) ≡ whole left right (s .read) (s .rest)
-  shifted-plan = subst (λ q. whole left′ right′ (q .read) (q .rest) ≡ whole left right (s .read) (s .rest)) (sym (m .state)) (m .plan)
-
-  pub shifted-held : {n : ℕ} {starts : List ℕ} → Held n left′ starts right′ read rest → Held n left′ starts right′ (r .read) (r .rest)
-  shifted-held {n} {starts} h = subst (λ q. Held n left′ starts right′ (q .read) (q .rest)) (sym (m .state)) h

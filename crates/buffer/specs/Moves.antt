@@ -1,12 +1,10 @@
--- Nobody need believe this: contracts of functions cite it. What the functions on a gap buffer ask and answer: its sizes, the first state, the gap
--- moved.
+-- Nobody need believe this: contracts of functions cite it. What the functions on a gap buffer ask and answer: its sizes, and the first state.
 use Prim.Native.Nat.{ℕ, _-_, _≤_}
 use mathlib.Core.Path.{_≡_}
 use mathlib.Core.List.{List}
 use lib.ListN.{length}
 use Rattle.areas.specs.Storing.{no-step}
 use Rattle.buffer.specs.declared.State.{State}
-use Rattle.buffer.specs.Buffer.{whole, moved}
 use Rattle.areas.specs.Area.{most-words}
 
 -- the sizes of `Held`, where nothing is asked of the starts
@@ -19,8 +17,3 @@ pub record Gap (left right : List ℕ) (read rest : ℕ) : Type 0 where
 -- no step made and nothing read of a plan of so many words
 abbrev pub loaded : ℕ → State
 loaded size = record { read = 0; rest = most-words - size; made = no-step }
-
--- the gap stands elsewhere in the same plan
-pub record Shifted (left right left′ right′ : List ℕ) (s r : State) (read rest : ℕ) : Type 0 where
-  pub state : r ≡ moved s read rest
-  pub plan : whole left′ right′ read rest ≡ whole left right (s .read) (s .rest)

@@ -7,7 +7,7 @@ ghost use Prim.Native.Nat.{_+_, _-_, _≤_, _<_};
 ghost use lib.ListN.{length, drop};
 ghost use Rattle.plans.specs.Judging.{words-refusal};
 ghost use Rattle.buffer.specs.Buffer.{whole, Held, moved, stepped};
-ghost use Rattle.buffer.specs.Moves.{Gap, loaded, Shifted};
+ghost use Rattle.buffer.specs.Moves.{Gap, loaded};
 ghost use Rattle.areas.specs.Area.{most-words};
 
 // The state between two steps: how many words are read and where in its array the rest begins; and the steps made.
@@ -56,28 +56,22 @@ pub fn load(plan: &[u8], right: &mut [u8]) -> State
 }
 
 // Moves the first word of the rest over to the words read.
-pub fn forward(n: u8, left: &mut [u8], starts: &mut [u16], right: &[u8], state: State) -> State
-    requires { ⌜ (n ≤ 31) × (state .rest < most-words) ⌝ }
-    requires { ⌜ Held n (now left) (now starts) (now right) (state .read) (state .rest) ⌝ }
-    requires { ⌜ words-refusal n (whole (now left) (now right) (state .read) (state .rest)) ≡ none ⌝ }
-    ensures { λ r. ⌜ Shifted (now (left .entry)) (now (right .entry)) (now (left .exit)) (now (right .entry)) state r (state .read + 1) (state .rest + 1) × Held n (now (left .exit)) (now (starts .exit)) (now (right .entry)) (state .read + 1) (state .rest + 1) ⌝ }
+pub fn forward(n: u8, left: &mut [u8], starts: &mut [u16], right: &[u8], read: usize, rest: usize)
+    requires { ⌜ (n ≤ 31) × (rest < most-words) × Held n (now left) (now starts) (now right) read rest ⌝ }
+    requires { ⌜ words-refusal n (whole (now left) (now right) read rest) ≡ none ⌝ }
+    ensures { λ r. ⌜ whole (now (left .exit)) (now (right .entry)) (read + 1) (rest + 1) ≡ whole (now (left .entry)) (now (right .entry)) read rest ⌝ }
+    ensures { λ r. ⌜ Held n (now (left .exit)) (now (starts .exit)) (now (right .entry)) (read + 1) (rest + 1) ⌝ }
 {
-    let read = state.read;
-    let rest = state.rest;
     let word = right[rest];
     let start = plans::start_of_next(n, word, starts, read);
     starts[read] = start;
     left[read] = word;
-    state.moved_to(read + 1, rest + 1)
 }
 
 // Moves the last word read back to the rest.
-pub fn back(left: &[u8], right: &mut [u8], state: State) -> State
-    requires { ⌜ Gap (now left) (now right) (state .read) (state .rest) × (1 ≤ state .read) ⌝ }
-    ensures { λ r. ⌜ Shifted (now (left .entry)) (now (right .entry)) (now (left .entry)) (now (right .exit)) state r (state .read - 1) (state .rest - 1) ⌝ }
+pub fn back(left: &[u8], right: &mut [u8], read: usize, rest: usize)
+    requires { ⌜ Gap (now left) (now right) read rest × (1 ≤ read) ⌝ }
+    ensures { λ r. ⌜ whole (now (left .entry)) (now (right .exit)) (read - 1) (rest - 1) ≡ whole (now (left .entry)) (now (right .entry)) read rest ⌝ }
 {
-    let read = state.read - 1;
-    let rest = state.rest - 1;
-    right[rest] = left[read];
-    state.moved_to(read, rest)
+    right[rest - 1] = left[read - 1];
 }

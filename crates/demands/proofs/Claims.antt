@@ -30,13 +30,14 @@ use Rattle.rewritings.proofs.Bytes.{moves-bytes, bytes-whole}
 use Rattle.rewritings.proofs.Choosing.{none-fits, fits-none}
 use Rattle.unfolding.specs.declared.Unfolded.{Unfolded}
 use Rattle.unfolding.specs.declared.Unfolded.the-variants.{Finished, Stopped, Refused}
-use Rattle.unfolding.specs.Unfolding.{Run, run-of, unfolded, unfold-refusal, unfold-outcome, unless-refused}
+use Rattle.rewritings.specs.Runs.{Run, run-of}
+use Rattle.unfolding.specs.Unfolding.{unfolded, unfold-refusal, unfold-outcome, unless-refused}
 use Rattle.checking.specs.declared.Checked.the-variants.{Accepted}
 use Rattle.checking.specs.Checking.{replay-of, rewriting-refusal, check-refusal, check-outcome}
 use Rattle.checking.proofs.Replaying.{accepted-alike}
 use Rattle.demands.specs.Claims.{Reports, finished, stopped, own-rewriting, UnfoldClaims, CheckClaims}
 use Rattle.demands.proofs.Running.{Followed, run-followed, run-records-long, run-ends, ends-finished, ends-stopped}
-use Rattle.laws.specs.Laws.{highest-law}
+use Rattle.laws.specs.Laws.{highest-law, first-choice}
 
 pub take-padded : (w : List ℕ) (n : ℕ) → take (length w) (padded w n) ≡ w
 unfolding padded
@@ -89,7 +90,7 @@ module _ (t : Tables) (plan : List ℕ) (m l c : ℕ) (p : AcceptedPlan t plan) 
   own-accepted a b h =
       rw (h, plan-ok, reached-ok, le-ltb c (length plan) held, bytes-whole (R .moves), moves-bytes (R .moves), F .is-own, F .known 0, F .replays)
 
-  no-law : (x : AcceptedPlan t (R .plan)) → ((i k : ℕ) → i < length (R .plan) → 5 ≤ k → k ≤ highest-law → step t k i (R .plan) ≡ none) ↔ Basic (x .term)
+  no-law : (x : AcceptedPlan t (R .plan)) → ((i k : ℕ) → i < length (R .plan) → first-choice ≤ k → k ≤ highest-law → step t k i (R .plan) ≡ none) ↔ Basic (x .term)
   no-law x = no-step-iff-basic t (p .lawful .well-formed .few-actions) (R .plan) (x .term) (accepted-reads-as t (R .plan) x)
 
   finished-basic : (R .number ≡ 0) ↔ BasicPlan t (R .plan)

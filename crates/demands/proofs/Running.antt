@@ -17,7 +17,7 @@ use Rattle.rewritings.specs.Records.{Move, bytes-of}
 use Rattle.rewritings.specs.Choice.{Found, next-step}
 use Rattle.rewritings.proofs.Bytes.{bytes-long}
 use Rattle.rewritings.proofs.Choosing.{Taken, next-taken}
-use Rattle.unfolding.specs.Unfolding.{Run, move, run, run-of, on-found, stop-if}
+use Rattle.rewritings.specs.Runs.{Run, move, run, run-of, on-found, stop-if}
 use Rattle.checking.specs.Checking.{replay, unknown-law}
 use Rattle.checking.proofs.Replaying.{same-itself}
 use Rattle.demands.specs.Claims.{Stops, allowance-spent, list-full, next-too-long}

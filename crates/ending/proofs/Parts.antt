@@ -13,7 +13,8 @@ use Rattle.plans.specs.Stack.{spell}
 use Rattle.plans.proofs.Reading.{Over-all, term-words}
 use Rattle.laws.proofs.Normal.{no-step-iff-basic}
 use Rattle.rewritings.specs.Roots.{first-law}
-use Rattle.rewritings.specs.Choice.{next-step, first-choice, choices}
+use Rattle.laws.specs.Laws.{first-choice, choices}
+use Rattle.rewritings.specs.Choice.{next-step}
 use Rattle.rewritings.proofs.Choosing.{fits-none}
 use Rattle.rewritings.proofs.Quiet.{sign-one, sign-two, quiet-push, next-found}
 use Rattle.ending.specs.Ending.{Steps, none-left, one-more}

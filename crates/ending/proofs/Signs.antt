@@ -12,11 +12,10 @@ use Rattle.plans.specs.declared.Unary.{Unary}
 use Rattle.plans.specs.declared.Unary.the-variants.{Priority, Encapsulation}
 use Rattle.plans.specs.Term.{Term, act, un, bin, Set-number, Over}
 use Rattle.plans.specs.Basic.{Basic, dead-stop, sum-plan, SumPlan, action, prefix, sum}
-use Rattle.laws.specs.Laws.{laws, law-at, rewrite, fit}
+use Rattle.laws.specs.Laws.{laws, law-at, rewrite, fit, first-choice, choices as law-count}
 use Rattle.laws.proofs.Tables.{Proper}
 use Rattle.rewritings.specs.Roots.{first-law}
 use Rattle.ending.proofs.Parts.{Fine, Settles, settled, in-one, in-left, in-right, in-two, law-one, law-two}
-use Rattle.rewritings.specs.Choice.{first-choice, choices as law-count}
 
 -- the size of a term, for the merges
 unfoldable size : Term → ℕ

@@ -63,10 +63,6 @@ module _ {n : ℕ} (own first second : List ℕ) (w a b : ℕ) (f : length first
       (at-entry (getD-at first a [] 0 (length own) f) (holds-grown h))
       (at-entry (getD-at second b [] 0 (length own) s) (holds-grown l))
 
-  -- an old node
-  pub holds-old : {v : ℕ} {u u₀ : Term} → n ≤ 31 → Holds n (grown own first second w a b) v u → Holds n (graph own first second) v u₀ → u ≡ u₀
-  holds-old few h h₀ = holds-same n n few few (grown own first second w a b) h (holds-grown h₀)
-
 -- a node of the graph is the new one or an old one
 below-more : (v k : ℕ) → v < k + 1 → (v ≡ k) ⊎ (v < k)
 below-more v k h = inner (ltb v k) refl

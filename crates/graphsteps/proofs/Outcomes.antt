@@ -27,8 +27,7 @@ use Rattle.graphsteps.proofs.Redexes.{not-two, true-false, Redex, redex
 use Rattle.graphsteps.proofs.Terms.{held-over, next-entry, some-room, term-read}
 use Rattle.graphsteps.proofs.Signs.{sign-read, old-small, height-under}
 use Rattle.graphsteps.proofs.Steps.{not-allowed, no-room, over-long, side-room, step-made}
-use Rattle.laws.specs.Laws.{highest-law}
-use Rattle.rewritings.specs.Choice.{first-choice, choices}
+use Rattle.laws.specs.Laws.{highest-law, first-choice, choices}
 
 -- the law chosen at a root, by whether it is 0
 module _ {t : Tables} {n : ℕ} {g : Graph} {slots : List ℕ} where
@@ -37,7 +36,7 @@ module _ {t : Tables} {n : ℕ} {g : Graph} {slots : List ℕ} where
   none-first (chosen-at k v low high r) e = absurd (omega arith)
 
   one-first : {o : Option (ℕ × Term)} {k : ℕ} → ChosenAt t n g slots o k → (k ≡ 0 → ⊥)
-      → (v : Term) × (o ≡ some (k, v)) × (5 ≤ k) × (k ≤ highest-law) × ToRead n g (side-entries t k slots) (words v)
+      → (v : Term) × (o ≡ some (k, v)) × (first-choice ≤ k) × (k ≤ highest-law) × ToRead n g (side-entries t k slots) (words v)
   one-first none-at e = absurd (e refl)
   one-first (chosen-at k v low high r) e = (v, refl, low, high, r)
 
@@ -135,11 +134,11 @@ module _ (t : Tables) (ok : Lawful t) (c : ℕ) (most : c ≤ most-words) (allow
 
         -- the law chosen, other than 0, and the entries of its right side
         chosen-here : (law ≡ 0 → ⊥) → (w : List ℕ) (h : Holding t c (arrays own first second sizes stack todo) p w) → let x = there w h in
-            (v : Term) × (first-law t first-choice choices (x .term) ≡ some (law, v)) × (5 ≤ law) × (law ≤ highest-law)
+            (v : Term) × (first-law t first-choice choices (x .term) ≡ some (law, v)) × (first-choice ≤ law) × (law ≤ highest-law)
             × ToRead (actions t) (in-use (arrays own first second sizes stack todo) (p .count)) (side-entries t law slots) (words v)
         chosen-here e w h = let x = there w h in one-first (chosen .chosen-root (x .term) (x .root)) e
 
-        pub law-bounds : SomePlan t c (arrays own first second sizes stack todo) p → (law ≡ 0 → ⊥) → (5 ≤ law) × (law ≤ highest-law)
+        pub law-bounds : SomePlan t c (arrays own first second sizes stack todo) p → (law ≡ 0 → ⊥) → (first-choice ≤ law) × (law ≤ highest-law)
         law-bounds s e = let f = chosen-here e (s .some-plan) (s .holding) in (f .2, f .3)
 
         -- the next step is not made, for want of allowance or of room in the list

@@ -21,7 +21,8 @@ use Rattle.rewritings.specs.Roots.{first-law}
 use Rattle.graph.specs.Graph.{Graph, Holds, held-more}
 use Rattle.graph.proofs.Terms.{holds-same, root-over}
 use Rattle.graph.proofs.Growing.{grown, holds-grown, root-grown, held-grown, to-read-grown, holds-new, grown-split}
-use Rattle.rewritings.specs.Choice.{next-step, first-choice, choices}
+use Rattle.laws.specs.Laws.{first-choice, choices}
+use Rattle.rewritings.specs.Choice.{next-step}
 use Rattle.rewritings.proofs.Quiet.{quiet-last, next-none}
 use Rattle.graphsteps.specs.declared.Reading.{Reading}
 use Rattle.graphsteps.specs.declared.Operands.{Operands}

@@ -18,7 +18,8 @@ use Rattle.redexes.specs.Slots.{entries-size}
 use Rattle.graph.specs.Graph.{Graph, Holds, ToRead, read-none, read-more}
 use Rattle.graph.proofs.Terms.{root-over}
 use Rattle.graph.proofs.Reading.{to-read-append, to-read-long, sized-written}
-use Rattle.rewritings.specs.Choice.{Found, next-step, first-choice, choices}
+use Rattle.laws.specs.Laws.{first-choice, choices, highest-law}
+use Rattle.rewritings.specs.Choice.{Found, next-step}
 use Rattle.rewritings.proofs.Choosing.{next-taken}
 use Rattle.rewritings.proofs.Prefixes.{quiet-fewer}
 use Rattle.rewritings.proofs.Quiet.{next-found}
@@ -31,7 +32,6 @@ use Rattle.graphsteps.proofs.Redexes.{Redex}
 use Rattle.graphsteps.proofs.Terms.{held-over}
 use Rattle.graphsteps.proofs.Signs as Signs
 use Rattle.graphsteps.proofs.Signs.{f, plan-at, redex-size}
-use Rattle.laws.specs.Laws.{highest-law}
 
 -- entries come to as many words as they are written as
 sizes-right : {n : ℕ} {g : Graph} (sizes : List ℕ) → ((v : ℕ) (u : Term) → 256 ≤ v → Holds n g v u → getD sizes v 0 ≡ length (words u)) → {vs ws : List ℕ}

@@ -18,7 +18,7 @@ use Rattle.plans.specs.Term.{Term, act, un, bin, term-of, and-then}
 use Rattle.plans.specs.Place.{subterm, replace}
 use Rattle.plans.specs.Basic.{Basic, dead-stop, sum-plan, SumPlan, action, prefix, sum}
 use Rattle.plans.proofs.Options.{never}
-use Rattle.laws.specs.Laws.{Law, laws, nth, law-at, rewrite}
+use Rattle.laws.specs.Laws.{Law, laws, nth, law-at, rewrite, highest-law, first-choice}
 use Rattle.laws.specs.Step.{step}
 use Rattle.laws.proofs.Places.{Everywhere, everywhere-places, places-everywhere}
 
@@ -45,16 +45,16 @@ head (sum-plan (sum {u = u} {v = v} p q)) = add u v
 module _ (t : Tables) where
   -- none of laws 5 to 32 fits a term at its root
   abbrev pub Still : Term → Type 0
-  Still u = (k : ℕ) → 5 ≤ k → k ≤ 32 → rewrite t (law-at k) u ≡ none
+  Still u = (k : ℕ) → first-choice ≤ k → k ≤ highest-law → rewrite t (law-at k) u ≡ none
 
   -- one does
   data Fits (u : Term) : Type 0 where
-    by : (k : ℕ) → leb 5 k && leb k 32 ≡ true → IsSome (rewrite t (law-at k) u) → Fits u
+    by : (k : ℕ) → leb first-choice k && leb k highest-law ≡ true → IsSome (rewrite t (law-at k) u) → Fits u
 
   clash {ℓ} : {A : Type ℓ} (u : Term) → Still u → Fits u → A
   clash u s (by k h i) =
-      let c = and-eq-true-iff (leb 5 k) _ .0 h in
-      absurd (subst IsSome (s k (leb-true 5 k (c .0)) (leb-true k 32 (c .1))) i)
+      let c = and-eq-true-iff (leb first-choice k) _ .0 h in
+      absurd (subst IsSome (s k (leb-true first-choice k (c .0)) (leb-true k highest-law (c .1))) i)
 
   -- an operator other than + and · on basic terms: some law fits
   fits-un : (o : Unary) {u : Term} → Head u → Fits (un o u)
@@ -154,7 +154,7 @@ module _ (t : Tables) where
   still : (u : Term) → None-fits u → Still u
   unfolding law-at
   still u e k h i =
-      let j = k - 5 in
+      let j = k - first-choice in
       let l : suc (suc (suc (suc (suc j)))) ≡ k = omega arith in
       subst (λ k. rewrite t (law-at k) u ≡ none) l (nth-none (drop 4 laws) u e j)
 
@@ -202,7 +202,7 @@ module _ (t : Tables) (k p : ℕ) (ws : List ℕ) where
 
 -- "basic goes by the words": none of laws 5 to 32 fits at any place of a plan exactly when it is basic
 pub no-step-iff-basic : (t : Tables) → actions t ≤ 31 → (ws : List ℕ) (x : Term) → term-of (actions t) ws ≡ some x
-    → ((p k : ℕ) → p < length ws → 5 ≤ k → k ≤ 32 → step t k p ws ≡ none) ↔ Basic x
+    → ((p k : ℕ) → p < length ws → first-choice ≤ k → k ≤ highest-law → step t k p ws ≡ none) ↔ Basic x
 no-step-iff-basic t few ws x e = (
   λ f. still-basic t x (places-everywhere (Still t) (actions t) few ws (λ p h u i k l m. still-at t k p ws u i (f p k h l m)) x e),
   λ b p k h l m. none-at t k p ws (λ u i. everywhere-places (Still t) (actions t) ws x e (basic-still t x b) p u i k l m),

@@ -5,6 +5,7 @@ use mathlib.Core.List.{List}
 use mathlib.Core.Option.{none, some, Option·some-injective}
 use lib.ListN.{length}
 use borrow.Author.Tests.{le-ltb}
+use Rattle.areas.specs.Area.{most-words}
 use Rattle.tables.specs.Tables.{Tables, actions}
 use Rattle.tables.specs.Lawful.{Lawful}
 use Rattle.plans.specs.Term.{Term, term-of}
@@ -60,13 +61,13 @@ module _ (t : Tables) (ok : Proper t) where
       (d .0, d .1, alike-trans (c .2) (d .2))
 
 -- a plan that is read is accepted unless it is too long
-pub reads-accepted : (t : Tables) → Lawful t → (ws : List ℕ) (x : Term) → term-of (actions t) ws ≡ some x → length ws ≤ 16384 → words-refusal (actions t) ws ≡ none
+pub reads-accepted : (t : Tables) → Lawful t → (ws : List ℕ) (x : Term) → term-of (actions t) ws ≡ some x → length ws ≤ most-words → words-refusal (actions t) ws ≡ none
 reads-accepted t ok ws x e h = term-accepted (actions t) (ok .well-formed .few-actions) ws x e (subst (λ l. 1 ≤ length l) (term-said (actions t) ws x e .0) (words-some x)) h
 
 -- Any number of steps, each a law of the thirty-two at a place, from an accepted plan: the trees are alike, and the last plan is accepted
 -- unless it is too long.
 pub chain-alike : (t : Tables) → Lawful t → {ws vs : List ℕ} → words-refusal (actions t) ws ≡ none → Rewrites t ws vs
-    → AlikePlans t ws vs × (length vs ≤ 16384 → words-refusal (actions t) vs ≡ none)
+    → AlikePlans t ws vs × (length vs ≤ most-words → words-refusal (actions t) vs ≡ none)
 chain-alike t ok {ws} {vs} a r =
     let c = accepted-term (actions t) (ok .well-formed .few-actions) ws a in
     let d = rewriting-keeps t (lawful-proper t ok) (c .0) r (c .1) in
@@ -74,5 +75,5 @@ chain-alike t ok {ws} {vs} a r =
 
 -- one step
 pub step-alike : (t : Tables) → Lawful t → (k p : ℕ) (ws vs : List ℕ) → words-refusal (actions t) ws ≡ none → step t k p ws ≡ some vs
-    → AlikePlans t ws vs × (length vs ≤ 16384 → words-refusal (actions t) vs ≡ none)
+    → AlikePlans t ws vs × (length vs ≤ most-words → words-refusal (actions t) vs ≡ none)
 step-alike t ok k p ws vs a e = chain-alike t ok a (step-then k p e no-step)

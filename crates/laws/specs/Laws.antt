@@ -1,6 +1,6 @@
 -- The thirty-two laws, left to right, in the notation of the papers. (01, "Laws, left to right"; source 000, Table 1; source 001, Tables 1 and 3.)
 -- Trees, alike and basic speak of no law. Nobody need believe `fit` and `rewrite`: Fits says what they compute.
-use Prim.Native.Nat.{ℕ, suc, zero}
+use Prim.Native.Nat.{ℕ, suc, zero, _-_}
 use mathlib.Core.Bool.{Bool, true, false, cond, _&&_, not}
 use mathlib.Core.List.{List, [], _∷_}
 use mathlib.Core.Option.{Option, none, some}
@@ -116,6 +116,13 @@ laws =
 -- the number of the last of them
 abbrev pub highest-law : ℕ
 highest-law = 32
+
+-- "one of laws 5 to 32": the first of those that an unfolding chooses from, and how many they are
+abbrev pub first-choice : ℕ
+first-choice = 5
+
+abbrev pub choices : ℕ
+choices = suc highest-law - first-choice
 
 -- what the letters of a law stand for; letter 5 is ∂'s set
 abbrev pub Binding : Type 0

@@ -1,5 +1,5 @@
--- Nobody need believe this: `step` computes `FitsAt` of Fits (proofs Fits `step-iff`), and `Rewrites` stands in proofs alone.
--- One step, and a rewriting. (Demand 2; the customer's word REWRITING.)
+-- One step, and a rewriting. (Demand 2; the customer's word REWRITING.) `step` computes `FitsAt` of Fits (proofs Fits `step-iff`), so whoever believes
+-- that need not believe this.
 use Prim.Native.Nat.{ℕ}
 use mathlib.Core.Path.{_≡_}
 use mathlib.Core.List.{List}

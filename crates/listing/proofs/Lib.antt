@@ -7,4 +7,3 @@ mod Unfolds
 mod Files
 mod Endings
 pub mod Outcome
-mod Examples

@@ -9,13 +9,14 @@ use lib.ListN.{length}
 use lib.Dec.{eqb}
 use borrow.Author.Tests.{eqb-true}
 use Rattle.refusals.specs.declared.Refusal.{Refusal}
-use Rattle.areas.specs.Area.{padded}
+use Rattle.areas.specs.Area.{padded, most-words}
 use Rattle.tables.specs.Tables.{Tables, actions}
 use Rattle.areas.specs.Reached.{capacity, even?, area-a, area-b, reached-part}
 use Rattle.rewritings.specs.Records.{bytes-of}
 use Rattle.unfolding.specs.declared.Unfolded.{Unfolded}
 use Rattle.unfolding.specs.declared.Unfolded.the-variants.{Finished, Stopped, Refused}
-use Rattle.unfolding.specs.Unfolding.{Run, run-of, unfold-refusal, unfold-outcome, UnfoldOutcome}
+use Rattle.rewritings.specs.Runs.{Run, run-of}
+use Rattle.unfolding.specs.Unfolding.{unfold-refusal, unfold-outcome, UnfoldOutcome}
 use Rattle.unfolding.specs.Unfolding as unfolding-of
 use Rattle.demands.specs.Claims.{own-rewriting}
 use Rattle.demands.proofs.Running.{run-records-long, run-held}
@@ -62,7 +63,7 @@ module _ (t : Tables) (plan list a b : List ℕ) (hl : length list ≡ 15000) (h
   -- what an unfolding in areas of these lengths comes to
   cap : capacity a b ≡ 8192
   unfolding capacity
-  cap = ap (λ (m : ℕ). min (min m (length b)) 16384) ha ∙ ap (λ (m : ℕ). min (min 8192 m) 16384) hb
+  cap = ap (λ (m : ℕ). min (min m (length b)) most-words) ha ∙ ap (λ (m : ℕ). min (min 8192 m) most-words) hb
 
   in-areas : unfold-outcome t plan 5000 list a b ≡ unfolding-of.unless-refused (unfold-refusal t plan 8192) R list a b
   unfolding unfold-outcome

@@ -5,7 +5,7 @@ use mathlib.Core.List.{List}
 use mathlib.Core.Option.{none, some}
 use Rattle.refusals.specs.declared.Refusal.{Refusal}
 use Rattle.stations.specs.File.{file-refusal, tables-held, plan-held}
-use Rattle.unfolding.specs.Unfolding.{Run, run-of}
+use Rattle.rewritings.specs.Runs.{Run, run-of}
 use Rattle.listing.specs.Listing.{refused-line, run-listing, listing}
 
 -- "E is 0, 34 or 36"

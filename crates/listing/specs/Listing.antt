@@ -9,7 +9,8 @@ use Rattle.tables.specs.Tables.{Tables, actions}
 use Rattle.plans.specs.Basic.{orders-of}
 use Rattle.stations.specs.File.{file-refusal, tables-held, plan-held}
 use Rattle.rewritings.specs.Records.{Move, bytes-of, moves-of}
-use Rattle.unfolding.specs.Unfolding.{Run, run-of, unfold-refusal}
+use Rattle.rewritings.specs.Runs.{Run, run-of}
+use Rattle.unfolding.specs.Unfolding.{unfold-refusal}
 use Rattle.listing.specs.Text.{labelled, line-end, space, ascii}
 
 -- "It prints `end E steps S size Z orders O`"

@@ -1,6 +1,7 @@
 // The lines that the program prints.
 use crate::text;
 use refusals::Refusal;
+use rewritings::Record;
 ghost use Prim.Native.Nat.{_+_, _*_, _≤_};
 ghost use lib.ListN.{length};
 ghost use Rattle.rewritings.specs.Records.{moves-of};
@@ -44,28 +45,34 @@ pub fn put_words(plan: &[u8], out: &mut [u8], at: usize) -> usize
 }
 
 // One step on a line: its law and its place.
-fn put_step(law: u8, low: u8, high: u8, out: &mut [u8], at: usize) -> usize
-    requires { ⌜ at + length (step-line law (low + 256 * high)) ≤ length (now out) ⌝ }
-    ensures { λ r. ⌜ Wrote (now (out .entry)) at (step-line law (low + 256 * high)) (now (out .exit)) r ⌝ }
+fn put_step(law: u8, place: usize, out: &mut [u8], at: usize) -> usize
+    requires { ⌜ at + length (step-line law place) ≤ length (now out) ⌝ }
+    ensures { λ r. ⌜ Wrote (now (out .entry)) at (step-line law place) (now (out .exit)) r ⌝ }
 {
-    let place = low as usize + 256 * (high as usize);
     let mut next = text::put_labelled(b"", law as usize, &mut *out, at);
     next = text::put_labelled(b" ", place, &mut *out, next);
     text::put_line_end(out, next)
 }
 
-// A line for each step that is recorded, three bytes to a step.
+// A line for each step that is recorded.
 pub fn put_steps(records: &[u8], out: &mut [u8], at: usize) -> usize
     requires { ⌜ at + 4 * length (now records) ≤ length (now out) ⌝ }
     ensures { λ r. ⌜ Wrote (now (out .entry)) at (step-lines (moves-of (now (records .entry)))) (now (out .exit)) r × (r ≤ at + 4 * length (now (records .entry))) ⌝ }
 {
     let mut next = at;
     let mut i: usize = 0;
-    while 3 <= records.len() - i {
-        next = put_step(records[i], records[i + 1], records[i + 2], &mut *out, next);
-        i += 3;
+    loop {
+        let record = rewritings::record_at(records, i);
+        match record {
+            Record::End => {
+                return next;
+            }
+            Record::Step(law, place, behind) => {
+                next = put_step(law, place, &mut *out, next);
+                i = behind;
+            }
+        }
     }
-    next
 }
 
 // The only line where something is refused: the refusal's number and its place.

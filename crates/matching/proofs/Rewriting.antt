@@ -132,7 +132,7 @@ well k =
     && (covered (law-at k .rhs) (letters (law-at k .lhs) nothing)
     && (needs-letters (law-at k .when) (letters (law-at k .lhs) nothing) && eqb (check-number (check-at k)) (check-number (check-for (law-at k .when)))))
 
-all-well : passes (λ j. well (suc j)) 32 ≡ true
+all-well : passes (λ j. well (suc j)) highest-law ≡ true
 unfolding well nothing plain covered letters needs-letters check-at law-at laws
 all-well = refl
 
@@ -146,7 +146,7 @@ start-rel plan f g h l =
 
 module _ (k : ℕ) (low : 1 ≤ k) (high : k ≤ highest-law) where
   all : well k ≡ true
-  all = let e : suc (k - 1) ≡ k = omega arith in rw e at (passed (λ j. well (suc j)) 32 all-well (k - 1) (omega arith))
+  all = let e : suc (k - 1) ≡ k = omega arith in rw e at (passed (λ j. well (suc j)) highest-law all-well (k - 1) (omega arith))
 
   L : ℕ → Bool
   L = letters (law-at k .lhs) nothing

@@ -1,5 +1,5 @@
 -- The right side of a law, written out, has as many words as its size says, and few.
-use Prim.Native.Nat.{ℕ, suc, _-_, _≤_, _<_}
+use Prim.Native.Nat.{ℕ, suc, _-_, _*_, _≤_, _<_}
 use mathlib.Core.Path.{_≡_, refl}
 use mathlib.Core.List.{List}
 use mathlib.Core.Bool.{Bool, true}
@@ -25,7 +25,7 @@ spelled-law-length t k plan f g r = spelled-size (communication t (word-from pla
 short? : ℕ → Bool
 short? k = leb (length (forth (law-at (suc k) .rhs))) 11
 
-all-short : passes short? 32 ≡ true
+all-short : passes short? highest-law ≡ true
 unfolding short? forth law-at laws binary-word
 all-short = refl
 
@@ -33,10 +33,10 @@ pub side-short : (k : ℕ) → 1 ≤ k → k ≤ highest-law → length (forth (
 unfolding short?
 side-short k l h =
     let e : suc (k - 1) ≡ k = omega arith in
-    let q : length (forth (law-at (suc (k - 1)) .rhs)) ≤ 11 = leb-true _ 11 (passed short? 32 all-short (k - 1) (omega arith)) in
+    let q : length (forth (law-at (suc (k - 1)) .rhs)) ≤ 11 = leb-true _ 11 (passed short? highest-law all-short (k - 1) (omega arith)) in
     rw e at q
 
-pub law-size-bound : (k : ℕ) (plan f g : List ℕ) → 1 ≤ k → k ≤ highest-law → Reaches plan f g → length plan ≤ most-words → law-size k f g ≤ 180224
+pub law-size-bound : (k : ℕ) (plan f g : List ℕ) → 1 ≤ k → k ≤ highest-law → Reaches plan f g → length plan ≤ most-words → law-size k f g ≤ 11 * most-words
 unfolding law-size
 law-size-bound k plan f g l h r few = omega (arith, size-bound plan f g r few (forth (law-at k .rhs)), side-short k l h)
 

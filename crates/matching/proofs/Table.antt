@@ -37,6 +37,6 @@ module _ (table cuts : List ℕ) (side : ℕ → List ℕ) where
         same = rw e (same-list _ _ (and-right (leb b (length table)) s t));
       }
 
-  pub cut : passes cut-right 32 ≡ true → (law : ℕ) → 1 ≤ law → law ≤ highest-law → Cut law
+  pub cut : passes cut-right highest-law ≡ true → (law : ℕ) → 1 ≤ law → law ≤ highest-law → Cut law
   cut e zero h l = absurd (omega arith)
-  cut e (suc k) h l = cut-after k (passed cut-right 32 e k (omega arith))
+  cut e (suc k) h l = cut-after k (passed cut-right highest-law e k (omega arith))

@@ -81,15 +81,6 @@ module _ (n : ℕ) (w : List ℕ) (p : ℕ) (u : Term) where
       rw (k .2)
       (read-on n (spell s) (words v ++ rest) [] s (read-spell n few s (k .1 .1)) ∙ read-on n (words v) rest s (v ∷ s) (read-words n few v s over))
 
-  pub replaced-length : (v : Term) → subterm n w p ≡ some u → length (replace w p u v) + length (words u) ≡ length w + length (words v)
-  unfolding replace
-  replaced-length v e =
-      let c = subterm-stack e in
-      let k = cut (c .1 .0) (c .0) (c .1 .1) in
-      let q = ap length (k .0) in
-      rw (k .2, length-append (spell (c .1 .0)) (words v ++ drop (suc p) w), length-append (words v) (drop (suc p) w), length-drop (suc p) w)
-      (omega (arith, c .0, simp length-append at q, length-take-le (suc p) w (c .0)))
-
 -- a plan that is one term has terms that wait at each place
 pub stack-at : (n : ℕ) (w : List ℕ) (v : Term) → term-of n w ≡ some v → (i : ℕ) → (s : List Term) × (read n (take i w) [] ≡ some s)
 unfolding term-of

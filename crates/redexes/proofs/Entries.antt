@@ -12,7 +12,7 @@ use Rattle.areas.proofs.Area.{paste-more, paste-all}
 use Rattle.graph.specs.Graph.{Graph, entry-size, as-word, as-term, ToRead, read-none, read-more}
 use Rattle.graph.proofs.Reading.{holds-inside}
 use Rattle.redexes.specs.Slots.{entry-for, entries-for, entries-size, SizesReach}
-use Rattle.laws.specs.Laws.{highest-law}
+use Rattle.laws.specs.Laws.{highest-law, first-choice}
 
 -- What a word of a right side is as an entry.
 module _ (c : ℕ) (slots : List ℕ) where
@@ -81,5 +81,5 @@ unlike-above law (suc k) h u = step (unlike-above law k h (u .0)) (u .1)
     step : 5 + k ≤ law → (law ≡ 5 + k → ⊥) → 5 + suc k ≤ law
     step a b = omega arith
 
-pub last-law : (law : ℕ) → 5 ≤ law → law ≤ highest-law → Unlike law 27 → law ≡ 32
+pub last-law : (law : ℕ) → first-choice ≤ law → law ≤ highest-law → Unlike law 27 → law ≡ 32
 last-law law h l u = omega (arith, unlike-above law 27 h u)

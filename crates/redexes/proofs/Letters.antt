@@ -10,7 +10,7 @@ use Rattle.tables.specs.Tables.{Tables, actions, communication}
 use Rattle.tables.specs.Lawful.{Lawful}
 use Rattle.plans.specs.Term.{Term, act}
 use Rattle.graph.specs.Graph.{Graph, Holds}
-use Rattle.laws.specs.Laws.{laws, law-at, Binding, build, highest-law}
+use Rattle.laws.specs.Laws.{laws, law-at, Binding, build, highest-law, first-choice, choices}
 use Rattle.redexes.specs.Slots.{slots-of, side-entries, ChosenAt, none-at, chosen-at}
 use Rattle.redexes.specs.Redexes.{no-redex}
 use Rattle.redexes.specs.declared.Redex.{Redex}
@@ -29,7 +29,7 @@ letters x y z a b h (suc (suc (suc (suc (suc k))))) = act h
 -- What a redex tells of the lowest law that fits a term: there is none, or it is law k, and the redex holds what the letters stand for.
 pub data Told (t : Tables) (n : ℕ) (g : Graph) : Redex → Option (ℕ × Term) → Type 0 where
   told-none : Told t n g no-redex none
-  told : (k : ℕ) → 5 ≤ k → k ≤ highest-law → {i j l a b h : ℕ} {x y z : Term} → Holds n g i x → Holds n g j y → Holds n g l z → a ≤ n → b ≤ n → h ≤ 7
+  told : (k : ℕ) → first-choice ≤ k → k ≤ highest-law → {i j l a b h : ℕ} {x y z : Term} → Holds n g i x → Holds n g j y → Holds n g l z → a ≤ n → b ≤ n → h ≤ 7
       → Told t n g (record { law = k; x = i; y = j; z = l; a = a; b = b; set = 80 + h }) (some (k, build t (letters x y z a b h) (law-at k .rhs)))
 
 -- the slots of a law
@@ -55,14 +55,14 @@ module _ {n : ℕ} {g : Graph} {i j l a b h : ℕ} {x y z : Term} (p : Holds n g
       action (suc (suc (suc (suc (suc k))))) m o = absurd (omega arith)
 
 -- the slots have the letters of the right sides of laws 5 to 32, by computation
-all-lettered : passes (λ j. lettered (law-at (5 + j) .rhs)) 28 ≡ true
+all-lettered : passes (λ j. lettered (law-at (first-choice + j) .rhs)) choices ≡ true
 unfolding lettered law-at laws
 all-lettered = refl
 
-is-lettered : (k : ℕ) → 5 ≤ k → k ≤ highest-law → lettered (law-at k .rhs) ≡ true
+is-lettered : (k : ℕ) → first-choice ≤ k → k ≤ highest-law → lettered (law-at k .rhs) ≡ true
 is-lettered k low high =
-    let e : 5 + (k - 5) ≡ k = omega arith in
-    rw e at (passed (λ j. lettered (law-at (5 + j) .rhs)) 28 all-lettered (k - 5) (omega arith))
+    let e : first-choice + (k - first-choice) ≡ k = omega arith in
+    rw e at (passed (λ j. lettered (law-at (first-choice + j) .rhs)) choices all-lettered (k - first-choice) (omega arith))
 
 -- what is told is what is chosen, and in slots
 module _ (t : Tables) {n : ℕ} (few : n ≤ 31) where

@@ -12,13 +12,12 @@ use Rattle.plans.specs.declared.Unary.the-variants.{Priority, Encapsulation}
 use Rattle.plans.specs.Word.{binary-word}
 use Rattle.plans.specs.Term.{Term, act, un, bin}
 use Rattle.graph.specs.Graph.{Graph, Holds, leaf, one, two}
-use Rattle.laws.specs.Laws.{δ, Binding, bind, fit, holds, build, rewrite, laws, law-at, highest-law}
+use Rattle.laws.specs.Laws.{δ, Binding, bind, fit, holds, build, rewrite, laws, law-at, highest-law, first-choice, choices}
 use Rattle.rewritings.specs.Roots.{first-law}
 use Rattle.redexes.specs.Redexes.{on-plans, on-actions, on-set, choice-redex, sequence-redex, left-merge-redex, priority-redex, encapsulation-redex}
 use Rattle.redexes.specs.declared.root.Operand.{Operand}
 use Rattle.redexes.proofs.Operands.{operand, Seen, seen-action, seen-sum, seen-product, seen-one, seen-two}
 use Rattle.redexes.proofs.Letters.{Told, told, told-none, letters}
-use Rattle.rewritings.specs.Choice.{first-choice, choices}
 
 -- a letter that a law does not have stands for dead stop
 pub stop-held : {n : ℕ} {g : Graph} → Holds n g 0 (act 0)
@@ -33,15 +32,15 @@ fit-stop (two {v} i j e h l) s = rw (ne-eqb v 0 (λ q. omega arith))
 
 module _ (t : Tables) {n : ℕ} {g : Graph} where
   -- a law of plans, of actions and plans, or of ∂
-  pub plans-told : (k : ℕ) → (5 ≤ k) × (k ≤ highest-law) → {i j l : ℕ} {x y z : Term} → Holds n g i x → Holds n g j y → Holds n g l z
+  pub plans-told : (k : ℕ) → (first-choice ≤ k) × (k ≤ highest-law) → {i j l : ℕ} {x y z : Term} → Holds n g i x → Holds n g j y → Holds n g l z
       → Told t n g (on-plans k i j l) (some (k, build t (letters x y z 0 0 0) (law-at k .rhs)))
   plans-told k m p q r = told k (m .0) (m .1) {a = 0} {b = 0} {h = 0} p q r (omega arith) (omega arith) (omega arith)
 
-  pub actions-told : (k : ℕ) → (5 ≤ k) × (k ≤ highest-law) → {a b i j : ℕ} {x y : Term} → a ≤ n → b ≤ n → Holds n g i x → Holds n g j y
+  pub actions-told : (k : ℕ) → (first-choice ≤ k) × (k ≤ highest-law) → {a b i j : ℕ} {x y : Term} → a ≤ n → b ≤ n → Holds n g i x → Holds n g j y
       → Told t n g (on-actions k a b i j) (some (k, build t (letters x y (act 0) a b 0) (law-at k .rhs)))
   actions-told k m d e p q = told k (m .0) (m .1) {h = 0} p q stop-held d e (omega arith)
 
-  set-told : (k : ℕ) → (5 ≤ k) × (k ≤ highest-law) → {h a i j : ℕ} {x y : Term} → h ≤ 7 → a ≤ n → Holds n g i x → Holds n g j y
+  set-told : (k : ℕ) → (first-choice ≤ k) × (k ≤ highest-law) → {h a i j : ℕ} {x y : Term} → h ≤ 7 → a ≤ n → Holds n g i x → Holds n g j y
       → Told t n g (on-set k (80 + h) a i j) (some (k, build t (letters x y (act 0) a 0 h) (law-at k .rhs)))
   set-told k m f d p q = told k (m .0) (m .1) {b = 0} p q stop-held d (omega arith) f
 

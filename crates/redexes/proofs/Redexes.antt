@@ -21,7 +21,7 @@ use Rattle.redexes.proofs.Operands.{seen, small}
 use Rattle.redexes.proofs.Letters.{Told, told-chosen, told-actions}
 use Rattle.redexes.proofs.OneOperand.{choice-told, merge-told, sequence-told, left-merge-told, priority-told, encapsulation-told}
 use Rattle.redexes.proofs.TwoOperands.{communication-told, unless-told}
-use Rattle.rewritings.specs.Choice.{first-choice, choices}
+use Rattle.laws.specs.Laws.{first-choice, choices}
 
 -- what is under a word 0 is a word
 pub operand-small : {n : ℕ} {g : Graph} {v : ℕ} {u : Term} → n ≤ 31 → Holds n g v u → Small (operand-of g v)

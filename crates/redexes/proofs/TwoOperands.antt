@@ -14,14 +14,13 @@ use Rattle.plans.specs.declared.Unary.{Unary}
 use Rattle.plans.specs.Word.{binary-word}
 use Rattle.plans.specs.Term.{Term, act, un, bin}
 use Rattle.graph.specs.Graph.{Graph, Holds, leaf, one, two}
-use Rattle.laws.specs.Laws.{Pattern, any, any-action, node, Binding, bind, fit, holds, build, rewrite, laws, law-at}
+use Rattle.laws.specs.Laws.{Pattern, any, any-action, node, Binding, bind, fit, holds, build, rewrite, laws, law-at, first-choice, choices}
 use Rattle.rewritings.specs.Roots.{first-law}
 use Rattle.redexes.specs.Redexes.{begins-with-action, together-redex, communication-redex, unless-actions, unless-redex}
 use Rattle.redexes.specs.declared.root.Operand.{Operand}
 use Rattle.redexes.proofs.Operands.{operand, Seen, seen-action, seen-sum, seen-product, seen-one, seen-two}
 use Rattle.redexes.proofs.Letters.{Told, told-none}
 use Rattle.redexes.proofs.OneOperand.{stop-held, plans-told, actions-told}
-use Rattle.rewritings.specs.Choice.{first-choice, choices}
 
 -- a term that neither is a sum nor begins with an action
 record NoBeginning (u : Term) : Type 0 where

@@ -10,11 +10,10 @@ use lib.Dec.{ltb}
 use Rattle.areas.specs.Area.{overwrite}
 use Rattle.tables.specs.Tables.{Tables, communication}
 use Rattle.plans.specs.Term.{Term, words}
-use Rattle.laws.specs.Laws.{law-at, highest-law}
+use Rattle.laws.specs.Laws.{law-at, highest-law, first-choice, choices}
 use Rattle.graph.specs.Graph.{Graph, Root, ToRead, entry-size}
 use Rattle.laws.specs.Postfix.{forth}
 use Rattle.rewritings.specs.Roots.{first-law}
-use Rattle.rewritings.specs.Choice.{first-choice, choices}
 use Rattle.redexes.specs.declared.Redex.{Redex}
 use Rattle.redexes.specs.declared.Put.{Put}
 use Rattle.redexes.specs.declared.Put.the-variants.{At, Long}
@@ -52,7 +51,7 @@ entries-size sizes (v ∷ vs) = entry-size sizes v + entries-size sizes vs
 -- Law k is chosen at the root, or 0 where none fits; its right side, as entries, is written as the term that it gives.
 pub data ChosenAt (t : Tables) (n : ℕ) (g : Graph) (slots : List ℕ) : Option (ℕ × Term) → ℕ → Type 0 where
   none-at : ChosenAt t n g slots none 0
-  chosen-at : (k : ℕ) (v : Term) → 5 ≤ k → k ≤ highest-law → ToRead n g (side-entries t k slots) (words v) → ChosenAt t n g slots (some (k, v)) k
+  chosen-at : (k : ℕ) (v : Term) → first-choice ≤ k → k ≤ highest-law → ToRead n g (side-entries t k slots) (words v) → ChosenAt t n g slots (some (k, v)) k
 
 pub record ChosenRoot (t : Tables) (n : ℕ) (g : Graph) (w a b : ℕ) (slots : List ℕ) (r : ℕ) : Type 0 where
   pub chosen-root : (u : Term) → Root n g w a b u → ChosenAt t n g slots (first-law t first-choice choices u) r

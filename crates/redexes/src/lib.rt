@@ -8,7 +8,7 @@ ghost use lib.ListN.{length, take};
 ghost use Rattle.tables.specs.Tables.{actions};
 ghost use Rattle.tables.specs.Lawful.{Lawful};
 ghost use Rattle.graph.specs.Graph.{graph, Nodes};
-ghost use Rattle.laws.specs.Laws.{highest-law};
+ghost use Rattle.laws.specs.Laws.{highest-law, first-choice};
 ghost use Rattle.redexes.specs.Slots.{RootTerm, ChosenRoot, slots-of, side-entries, entries-size, SizesReach, PutReady, PutBefore};
 
 // The law that fits, 0 if none does, and what its letters stand for: the entries of x, y and z, the actions a and b, and ∂'s word.
@@ -99,7 +99,7 @@ fn put_entries(sizes: &[u16], todo: &mut [u16], at: Bounds, entries: [u16; 11], 
 
 // Puts the right side of a law before the entries still to read, unless it is more words than it may be.
 pub fn put_side(tables: &[u8], sizes: &[u16], redex: Redex, todo: &mut [u16], at: Bounds) -> Put
-    requires { ⌜ (5 ≤ redex .law) × (redex .law ≤ highest-law) × (redex .a ≤ 31) × (redex .b ≤ 31) × (at .rest ≤ length (now todo)) ⌝ }
+    requires { ⌜ (first-choice ≤ redex .law) × (redex .law ≤ highest-law) × (redex .a ≤ 31) × (redex .b ≤ 31) × (at .rest ≤ length (now todo)) ⌝ }
     requires { ⌜ PutReady (now sizes) (side-entries (now tables) (redex .law) (slots-of redex)) (at .rest) (at .most) ⌝ }
     ensures { λ r. ⌜ PutBefore (now (sizes .entry)) (side-entries (now (tables .entry)) (redex .law) (slots-of redex)) (now (todo .entry)) (at .rest) (at .most) (now (todo .exit)) r ⌝ }
 {

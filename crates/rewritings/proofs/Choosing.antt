@@ -6,10 +6,10 @@ use mathlib.Core.List.{List}
 use mathlib.Core.Option.{Option, none, some}
 use lib.ListN.{length}
 use Rattle.tables.specs.Tables.{Tables}
-use Rattle.laws.specs.Laws.{highest-law}
+use Rattle.laws.specs.Laws.{highest-law, first-choice, choices}
 use Rattle.laws.specs.Step.{step}
 use Rattle.plans.proofs.Options.{never}
-use Rattle.rewritings.specs.Choice.{first-choice, choices, Found, found-at, lowest-law, next-step}
+use Rattle.rewritings.specs.Choice.{Found, found-at, lowest-law, next-step}
 use Rattle.rewritings.proofs.Finding.{search-some, search-none, none-search}
 
 -- a step of the plan w that the unfolding may take

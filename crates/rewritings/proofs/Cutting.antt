@@ -111,8 +111,3 @@ whole-by-three [] = refl
 whole-by-three (a ∷ []) = refl
 whole-by-three (a ∷ (b ∷ [])) = refl
 whole-by-three (a ∷ (b ∷ (x ∷ r))) = whole-by-three r ∙ three-more (length r)
-
--- three bytes give their step, and then those behind
-pub moves-three : (k l h : ℕ) (r : List ℕ) → moves-of (k ∷ (l ∷ (h ∷ r))) ≡ record { law = k; place = l + 256 * h } ∷ moves-of r
-unfolding moves-of
-moves-three k l h r = refl

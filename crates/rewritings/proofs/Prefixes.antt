@@ -17,10 +17,10 @@ use Rattle.plans.specs.Place.{subterm, replace}
 use Rattle.plans.specs.Start.{start-of}
 use Rattle.plans.proofs.Options.{never}
 use Rattle.plans.proofs.Start.{subterm-prefix}
-use Rattle.laws.specs.Laws.{law-at, rewrite}
+use Rattle.laws.specs.Laws.{law-at, rewrite, first-choice, choices}
 use Rattle.laws.specs.Step.{step}
 use Rattle.rewritings.specs.Roots.{law-term, first-law, else-law, first-term}
-use Rattle.rewritings.specs.Choice.{first-choice, choices, found-at, lowest-law, next-step}
+use Rattle.rewritings.specs.Choice.{found-at, lowest-law, next-step}
 use Rattle.rewritings.proofs.Finding.{none-search, search-first}
 use Rattle.rewritings.proofs.Choosing.{none-fits, fits-none}
 

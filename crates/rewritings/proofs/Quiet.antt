@@ -23,11 +23,11 @@ use Rattle.plans.proofs.Options.{never, and-then-some}
 use Rattle.plans.proofs.Reading.{Over-all, read-on, read-spell, read-said, term-words}
 use Rattle.plans.proofs.Place.{stack-at, stack-subterm}
 use Rattle.plans.proofs.Start.{subterm-prefix}
-use Rattle.laws.specs.Laws.{highest-law, laws, law-at, rewrite, fit}
+use Rattle.laws.specs.Laws.{highest-law, laws, law-at, rewrite, fit, first-choice, choices}
 use Rattle.laws.specs.Step.{step}
 use Rattle.rewritings.specs.Roots.{first-law, first-term}
 use Rattle.plans.proofs.Standing.{height, Stands, stands-subterm, stands-start, words-some}
-use Rattle.rewritings.specs.Choice.{first-choice, choices, next-step}
+use Rattle.rewritings.specs.Choice.{next-step}
 use Rattle.rewritings.proofs.Choosing.{none-fits, fits-none}
 use Rattle.rewritings.proofs.Prefixes.{put-last, no-fit, scan-on, scan-found}
 

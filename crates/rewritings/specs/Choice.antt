@@ -1,19 +1,12 @@
 -- The step that the unfolding takes. (01, "Unfolding".)
-use Prim.Native.Nat.{ℕ, suc, _-_}
+use Prim.Native.Nat.{ℕ}
 use mathlib.Core.List.{List}
 use mathlib.Core.Option.{Option, none, some}
 use lib.ListN.{length}
 use Rattle.tables.specs.Tables.{Tables}
 use Rattle.tables.specs.Search.{first-from}
-use Rattle.laws.specs.Laws.{highest-law}
+use Rattle.laws.specs.Laws.{first-choice, choices}
 use Rattle.laws.specs.Step.{step}
-
--- "one of laws 5 to 32": the first of those that the unfolding chooses from, and how many they are
-abbrev pub first-choice : ℕ
-first-choice = 5
-
-abbrev pub choices : ℕ
-choices = suc highest-law - first-choice
 
 -- a step found: the law, the place and the plan that it gives
 pub record Found : Type 0 where

@@ -2,3 +2,4 @@ pub mod Records
 pub mod Reading
 pub mod Choice
 pub mod Roots
+pub mod Runs

@@ -6,8 +6,7 @@ use lib.ListN.{length}
 use Rattle.tables.specs.Tables.{Tables}
 use Rattle.plans.specs.Term.{Term, and-then}
 use Rattle.plans.specs.Place.{subterm}
-use Rattle.laws.specs.Laws.{law-at, rewrite}
-use Rattle.rewritings.specs.Choice.{first-choice, choices}
+use Rattle.laws.specs.Laws.{law-at, rewrite, first-choice, choices}
 
 -- the term that law k gives at a plan's last word
 unfoldable pub law-term : Tables → ℕ → ℕ → List ℕ → Option Term

@@ -1,5 +1,5 @@
 -- A right side put in at the last word read: how long the plan then is, and the answer, from what the copies leave.
-use Prim.Native.Nat.{ℕ, _+_, _-_, _≤_, _<_}
+use Prim.Native.Nat.{ℕ, _+_, _-_, _*_, _≤_, _<_}
 use native.Mathlib.Omega.{arith}
 use mathlib.Core.Path.{_≡_, refl, sym, _∙_, subst}
 use mathlib.Core.List.{List}
@@ -22,7 +22,7 @@ module _ (t : Tables) (law c : ℕ) (left starts right old f g : List ℕ) (s : 
   pub side-size : length (side-here t law left f g s) ≡ size
   side-size = spelled-law-length t law (take (s .read) left) f g reach ∙ sym is-size
 
-  pub size-bound : 1 ≤ law → law ≤ highest-law → size ≤ 180224
+  pub size-bound : 1 ≤ law → law ≤ highest-law → size ≤ 11 * most-words
   size-bound low high =
       rw is-size
       (law-size-bound law (take (s .read) left) f g low high reach (omega (arith, read-long t left starts right s work, work .held .apart, work .held .rest-in)))

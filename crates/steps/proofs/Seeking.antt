@@ -8,25 +8,26 @@ use lib.ListN.{length}
 use Rattle.tables.specs.Tables.{Tables, actions}
 use Rattle.plans.specs.Judging.{words-refusal}
 use Rattle.buffer.specs.declared.State.{State}
-use Rattle.buffer.specs.Buffer.{whole, Held}
-use Rattle.buffer.specs.Moves.{Shifted}
-use Rattle.buffer.proofs.Whole.{shifted-plan, shifted-held}
+use Rattle.buffer.specs.Buffer.{whole, Held, moved}
 use Rattle.steps.specs.Working.{plan-in, Working, Same}
 use Rattle.steps.proofs.Making.{plan-long}
 use Rattle.areas.specs.Area.{most-words}
 
-pub same-start : (t : Tables) (left starts right : List ℕ) (s : State) → Working t left starts right s → Same t left starts right left starts right s s
-same-start t left starts right s w = record { working = w; same-plan = refl; same-step = refl }
+-- the gap stands where it did
+pub same-start : (t : Tables) (left starts right : List ℕ) (s : State) → Working t left starts right s
+    → Same t left starts right left starts right s (moved s (s .read) (s .rest))
+same-start t left starts right s w = record { working = record { held = w .held; accepted = w .accepted }; same-plan = refl; same-step = refl }
 
 -- one word more or fewer is read
-module _ (t : Tables) (left starts right left₁ starts₁ right₁ : List ℕ) (s g : State) (m : Same t left starts right left₁ starts₁ right₁ s g)
-    (left₂ starts₂ right₂ : List ℕ) (r : State) (read rest : ℕ) (f : Shifted left₁ right₁ left₂ right₂ g r read rest) where
-  pub same-on : Held (actions t) left₂ starts₂ right₂ read rest → Same t left starts right left₂ starts₂ right₂ s r
-  same-on h =
+module _ (t : Tables) (left starts right left₁ starts₁ right₁ : List ℕ) (s : State) (read₁ rest₁ : ℕ)
+    (m : Same t left starts right left₁ starts₁ right₁ s (moved s read₁ rest₁)) where
+  pub same-on : (left₂ starts₂ right₂ : List ℕ) (read rest : ℕ) → whole left₂ right₂ read rest ≡ whole left₁ right₁ read₁ rest₁
+      → Held (actions t) left₂ starts₂ right₂ read rest → Same t left starts right left₂ starts₂ right₂ s (moved s read rest)
+  same-on left₂ starts₂ right₂ read rest f h =
       record {
-        working = record { held = shifted-held f h; accepted = rw (shifted-plan f) (m .working .accepted) };
-        same-plan = shifted-plan f ∙ m .same-plan;
-        same-step = ap (λ (z : State). z .made) (f .state) ∙ m .same-step;
+        working = record { held = h; accepted = rw f (m .working .accepted) };
+        same-plan = f ∙ m .same-plan;
+        same-step = refl;
       }
 
 -- the words at a place before the end are not all read: one is left

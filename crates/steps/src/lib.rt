@@ -71,11 +71,14 @@ pub fn forward_to(
     requires { ⌜ (state .read ≤ place + 1) × (place < length (plan-in (now left) (now right) state)) ⌝ }
     ensures { λ r. ⌜ Same (now (tables .entry)) (now (left .entry)) (now (starts .entry)) (now (right .entry)) (now (left .exit)) (now (starts .exit)) (now (right .entry)) state r × (r .read ≡ place + 1) ⌝ }
 {
-    let mut gap = state;
-    while gap.read <= place {
-        gap = buffer::forward(n, &mut *left, &mut *starts, right, gap);
+    let mut read = state.read;
+    let mut rest = state.rest;
+    while read <= place {
+        buffer::forward(n, &mut *left, &mut *starts, right, read, rest);
+        read += 1;
+        rest += 1;
     }
-    gap
+    state.moved_to(read, rest)
 }
 
 // Moves the gap back until the word at a place is the last one read.
@@ -90,11 +93,14 @@ pub fn back_to(
     requires { ⌜ Working (now tables) (now left) (now starts) (now right) state × (place < state .read) ⌝ }
     ensures { λ r. ⌜ Same (now (tables .entry)) (now (left .entry)) (now (starts .entry)) (now (right .entry)) (now (left .entry)) (now (starts .entry)) (now (right .exit)) state r × (r .read ≡ place + 1) ⌝ }
 {
-    let mut gap = state;
-    while place + 1 < gap.read {
-        gap = buffer::back(left, &mut *right, gap);
+    let mut read = state.read;
+    let mut rest = state.rest;
+    while place + 1 < read {
+        buffer::back(left, &mut *right, read, rest);
+        read -= 1;
+        rest -= 1;
     }
-    gap
+    state.moved_to(read, rest)
 }
 
 // Makes law `law` at a place, if it fits there and the next plan has at most limit words.

@@ -1,3 +1,4 @@
 mod Ground
 mod Meaning
 mod Unfolding
+mod Printed

@@ -29,7 +29,8 @@ use Rattle.rewritings.specs.Records.{record-of, bytes-of, first-record, cut-fro
 use Rattle.rewritings.specs.Choice.{next-step, lowest-law}
 use Rattle.unfolding.specs.declared.Unfolded.{Unfolded}
 use Rattle.unfolding.specs.declared.Unfolded.the-variants.{Finished, Stopped}
-use Rattle.unfolding.specs.Unfolding.{run, run-of, unfold-refusal, unfold-outcome, UnfoldOutcome}
+use Rattle.rewritings.specs.Runs.{run, run-of}
+use Rattle.unfolding.specs.Unfolding.{unfold-refusal, unfold-outcome, UnfoldOutcome}
 use Rattle.unfolding.specs.Unfolding as unfolding-of
 use Rattle.checking.specs.declared.Checked.the-variants.{Accepted}
 use Rattle.checking.specs.Checking.{replay, replay-of, unknown-law, rewriting-refusal, check-refusal, check-outcome, CheckOutcome}

@@ -1,6 +1,2 @@
-mod Runs
-mod Stepping
-mod Loading
-mod OneRound
 mod Running
 mod Settling

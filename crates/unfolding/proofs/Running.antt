@@ -11,10 +11,12 @@ use Rattle.areas.specs.Storing.{no-step, before}
 use Rattle.tables.specs.Tables.{Tables}
 use Rattle.rewritings.specs.Records.{Move, bytes-of}
 use Rattle.rewritings.proofs.Bytes.{bytes-append}
-use Rattle.unfolding.specs.Unfolding.{run, run-of}
-use Rattle.unfolding.specs.Rounds.{Given, Ends, RoundEnd, run-over, another, RoundOf, RunMade}
-use Rattle.unfolding.specs.declared.rounds.Ending.the-variants.{Run as EndsRun, NoNode}
-use Rattle.unfolding.specs.declared.rounds.Round.{Round}
+use Rattle.rewritings.specs.Runs.{run, run-of}
+use Rattle.rounds.specs.Rounds.{Given, RoundEnd, run-over, another, RoundOf}
+use Rattle.recording.specs.Recording.{Ends}
+use Rattle.unfolding.specs.Made.{RunMade}
+use Rattle.recording.specs.declared.Ending.the-variants.{Run as EndsRun, NoNode}
+use Rattle.rounds.specs.declared.Round.{Round}
 
 abbrev zeros : ℕ → List ℕ
 zeros n = replicate n 0

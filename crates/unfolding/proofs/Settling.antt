@@ -12,6 +12,7 @@ use Rattle.refusals.specs.declared.Refusal.{Refusal}
 use Rattle.areas.specs.Area.{overwrite, padded, most-words}
 use Rattle.areas.specs.Reached.{capacity, even?, area-a, area-b}
 use Rattle.areas.specs.Storing.{no-step, Stored}
+use Rattle.areas.proofs.Area.{end-written}
 use Rattle.areas.proofs.Storing.{kept-none}
 use Rattle.tables.specs.Tables.{Tables}
 use Rattle.tables.specs.Lawful.{Lawful}
@@ -22,9 +23,10 @@ use Rattle.rewritings.specs.Records.{bytes-of}
 use Rattle.unfolding.specs.declared.Unfolded.{Unfolded}
 use Rattle.unfolding.specs.declared.Unfolded.the-variants.{Finished, Stopped, Refused}
 use Rattle.unfolding.specs.declared.Last.{Last}
-use Rattle.unfolding.specs.Unfolding.{Run, run-of, UnfoldOutcome, unfolded, settled, unfold-refusal, unfold-outcome}
-use Rattle.unfolding.specs.Rounds.{Given, RunMade}
-use Rattle.unfolding.proofs.Loading.{end-written}
+use Rattle.rewritings.specs.Runs.{Run, run-of}
+use Rattle.unfolding.specs.Unfolding.{UnfoldOutcome, unfolded, settled, unfold-refusal, unfold-outcome}
+use Rattle.rounds.specs.Rounds.{Given}
+use Rattle.unfolding.specs.Made.{RunMade}
 
 -- a list of zeros alone
 pub cleared : (l l′ : List ℕ) → l′ ≡ padded [] (length l) → length l′ ≡ length l → l′ ≡ padded [] (length l′)

@@ -1,2 +1,2 @@
 pub mod Unfolding
-pub mod Rounds
+pub mod Made

@@ -1,26 +1,25 @@
 // The unfolding of a plan: step after step, each at the least place at which one of laws 5 to 32 fits.
-mod rounds;
-
 use areas::MOST_WORDS;
 use areas::StepState;
+use recording::Ending;
 use refusals::Judgement;
 use refusals::Place;
 use refusals::Refusal;
-use rounds::Ending;
 ghost use mathlib.Core.Path.{_≡_};
 ghost use mathlib.Core.List.{[]};
 ghost use mathlib.Core.Option.{none};
 ghost use Prim.Native.Nat.{_+_, _≤_, _<_};
 ghost use lib.ListN.{length, drop};
-ghost use Rattle.areas.specs.Area.{overwrite, padded, most-words};
+ghost use Rattle.areas.specs.Area.{padded, most-words};
 ghost use Rattle.areas.specs.Reached.{capacity};
 ghost use Rattle.areas.specs.Storing.{no-step};
 ghost use Rattle.tables.specs.Tables.{actions};
 ghost use Rattle.tables.specs.Lawful.{Lawful};
 ghost use Rattle.plans.specs.Judging.{plan-refusal};
-ghost use Rattle.rewritings.specs.Records.{record-of};
-ghost use Rattle.unfolding.specs.Unfolding.{run-of, settled, unfold-outcome, UnfoldOutcome};
-ghost use Rattle.unfolding.specs.Rounds.{Given, RunMade};
+ghost use Rattle.rewritings.specs.Runs.{run-of};
+ghost use Rattle.rounds.specs.Rounds.{Given};
+ghost use Rattle.unfolding.specs.Unfolding.{settled, unfold-outcome, UnfoldOutcome};
+ghost use Rattle.unfolding.specs.Made.{RunMade};
 
 // What an unfolding answers: finished; or stopped by how far it had come (34, 35, 36); or refused by what was handed in. Steps are those
 // made, and size is the length of the plan reached.
@@ -42,16 +41,6 @@ pub struct Last {
     pub number: u8,
     pub front: usize,
     pub state: StepState,
-}
-
-// Records a step in three bytes: law, then place, low byte first.
-fn put_record(list: &mut [u8], used: usize, law: u8, place: usize)
-    requires { ⌜ (used + 3 ≤ length (now list)) × (place < 65536) ⌝ }
-    ensures { λ r. ⌜ now (list .exit) ≡ overwrite (now (list .entry)) used (record-of law place) ⌝ }
-{
-    list[used] = law;
-    list[used + 1] = (place % 256) as u8;
-    list[used + 2] = (place / 256) as u8;
 }
 
 // The run of an unfolding, round after round, its records put into the list, which holds zeros. The plan stands at the end of `words`, from `front`

@@ -6,19 +6,14 @@ use benchmarks::contenders::{PLAIN, PROVED};
 use benchmarks::maude;
 use benchmarks::measuring::{cell, least_times, mean};
 use benchmarks::workloads::{
-    longest_sum, single_action, sizes, stopped_merges, sum_tables, Places, Replay, Unfolding,
-    Workload, MERGES, STOPPED_CHAINS,
+    growing_sums, merges_in_growing_areas, merges_of_longer_chains, single_action, sizes,
+    sum_tables, Places, Replay, Unfolding, Workload, REPLAYED,
 };
 use reference::plans::LONGEST_PLAN;
 use reference::tables::{actions, trial_tables};
 
-/// The steps of a replay with near places, and with far ones.
-const REPLAYED: (usize, usize) = (4000, 400);
 /// The areas of a short call without a step.
 const SMALL_AREA: usize = 256;
-/// The actions of the first chain where the areas grow, and where they are the longest.
-const SHORT_CHAIN: usize = 2;
-const LONG_CHAINS: [usize; 3] = [3, 4, 5];
 
 fn main() {
     println!(
@@ -182,14 +177,7 @@ fn growing_areas(with_maude: bool) {
     println!("\n### Unfolding: the merge of two chains\n");
     println!("The first chain has two actions; the second is the longest whose unfolding finishes");
     println!("in areas of that many words.");
-    let mut table = Unfoldings::begin(with_maude, "plan | areas");
-    for merge in MERGES {
-        for area in sizes() {
-            let (_, unfolding) = merge.longest(SHORT_CHAIN, area);
-            table.row(&format!("{} | {area}", merge.name), unfolding);
-        }
-    }
-    table.end();
+    table(with_maude, "plan | areas", merges_in_growing_areas());
 }
 
 fn longer_chains(with_maude: bool) {
@@ -200,29 +188,21 @@ fn longer_chains(with_maude: bool) {
     println!(
         "of different actions, each after a dead stop; there the plan is loaded again and again."
     );
-    let mut table = Unfoldings::begin(with_maude, "plan | chains");
-    for merge in MERGES {
-        for first in LONG_CHAINS {
-            let (second, unfolding) = merge.longest(first, LONGEST_PLAN);
-            table.row(&format!("{} | {first}, {second}", merge.name), unfolding);
-        }
-    }
-    for chains in STOPPED_CHAINS {
-        let each = chains.iter().map(|(x, y)| format!("{x}, {y}"));
-        let names = each.collect::<Vec<_>>().join("; ");
-        table.row(&format!("Σ δ·(x‖y) | {names}"), stopped_merges(chains));
-    }
-    table.end();
+    table(with_maude, "plan | chains", merges_of_longer_chains());
 }
 
 fn plan_length(with_maude: bool) {
     println!("\n### Unfolding: plan length alone\n");
     println!("A sum of small plans ∂((a·c)‖b), all different, as many as can be unfolded in areas");
     println!("of that many words: the terms rewritten stay small while the plan grows.");
-    let mut table = Unfoldings::begin(with_maude, "areas | small plans");
-    for area in sizes() {
-        let (count, unfolding) = longest_sum(area);
-        table.row(&format!("{area} | {count}"), unfolding);
+    table(with_maude, "areas | small plans", growing_sums());
+}
+
+/// A table of unfoldings, each with the cells that name it.
+fn table(with_maude: bool, names: &str, rows: impl Iterator<Item = (String, Unfolding)>) {
+    let mut table = Unfoldings::begin(with_maude, names);
+    for (names, unfolding) in rows {
+        table.row(&names, unfolding);
     }
     table.end();
 }

@@ -250,6 +250,48 @@ pub fn longest_sum(area: usize) -> (usize, Unfolding) {
     found.expect("a small plan unfolds in every area measured")
 }
 
+/// The actions of the first chain where the areas grow, and where they are the longest.
+const SHORT_CHAIN: usize = 2;
+const LONG_CHAINS: [usize; 3] = [3, 4, 5];
+
+/// The merges in growing areas, each with the cells that name it: plan and areas.
+pub fn merges_in_growing_areas() -> impl Iterator<Item = (String, Unfolding)> {
+    let each = MERGES
+        .into_iter()
+        .flat_map(|merge| sizes().map(move |area| (merge, area)));
+    each.map(|(merge, area)| {
+        let (_, unfolding) = merge.longest(SHORT_CHAIN, area);
+        (format!("{} | {area}", merge.name), unfolding)
+    })
+}
+
+/// The merges of longer chains in the longest areas, then those after dead stops, each with the
+/// cells that name it: plan and chains.
+pub fn merges_of_longer_chains() -> impl Iterator<Item = (String, Unfolding)> {
+    let each = MERGES
+        .into_iter()
+        .flat_map(|merge| LONG_CHAINS.map(|first| (merge, first)));
+    let merges = each.map(|(merge, first)| {
+        let (second, unfolding) = merge.longest(first, LONGEST_PLAN);
+        (format!("{} | {first}, {second}", merge.name), unfolding)
+    });
+    let stopped = STOPPED_CHAINS.into_iter().map(|chains| {
+        let each = chains.iter().map(|(x, y)| format!("{x}, {y}"));
+        let names = each.collect::<Vec<_>>().join("; ");
+        (format!("Σ δ·(x‖y) | {names}"), stopped_merges(chains))
+    });
+    merges.chain(stopped)
+}
+
+/// The sums of small plans in growing areas, each with the cells that name it: areas and small
+/// plans.
+pub fn growing_sums() -> impl Iterator<Item = (String, Unfolding)> {
+    sizes().map(|area| {
+        let (count, unfolding) = longest_sum(area);
+        (format!("{area} | {count}"), unfolding)
+    })
+}
+
 /// A sum of actions with at most so many words, 7 or more, in which 1 + 2 stands at the front and
 /// at the end.
 pub fn long_sum(words: usize) -> Vec<u8> {
@@ -260,6 +302,9 @@ pub fn long_sum(words: usize) -> Vec<u8> {
     plan.extend([1, 2, CHOICE, CHOICE]);
     plan
 }
+
+/// The steps measured of a replay with near places, and with far ones.
+pub const REPLAYED: (usize, usize) = (4000, 400);
 
 /// A rewriting to replay, and what is lent.
 pub struct Replay {

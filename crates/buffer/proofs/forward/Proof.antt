@@ -13,7 +13,10 @@ shared-slice-read-word c = search needs
 start-of-next-requires : tie.Need-start-of-next-requires
 start-of-next-requires c κs =
     let s = c .before .before .before .before .before in
-    ((s .pre .0 .0, omega arith, s .pre .1 .0 .starts-long), next-word _ _ _ _ _ _ (s .pre .0 .0) (s .pre .0 .1) (s .pre .1 .0) (s .pre .1 .1) .0)
+    let few = s .pre .0 .0 in
+    let more = s .pre .0 .1 in
+    let h = s .pre .0 .2 in
+    ((few, omega (arith, more, h .apart), h .starts-long), next-word _ _ _ _ _ _ few more h (s .pre .1) .0)
 
 mul-starts : tie.Need-mul-starts
 mul-starts c = search needs
@@ -24,15 +27,6 @@ slice-write-starts c = search needs
 slice-write-left : tie.Need-slice-write-left
 slice-write-left c = search needs
 
-add-moved-to : tie.Need-add-moved-to
-add-moved-to c = search needs
-
-add-moved-to-2 : tie.Need-add-moved-to-2
-add-moved-to-2 c = search needs
-
-moved-to-requires : tie.Need-moved-to-requires
-moved-to-requires c κs = search needs
-
 same-length : tie.Need-same-length
 same-length c = search needs
 
@@ -41,14 +35,12 @@ same-length-2 c = search needs
 
 returns : tie.Need-returns
 returns c =
-    let s = c .before .before .before .before .before .before .before in
+    let s = c .before .before .before .before .before .before in
     let a = s .args in
-    let h = s .pre .1 .0 in
     let more = s .pre .0 .1 in
-    let e = c .before .start-of-next .ensures ∙ next-word (a .n) (a .left .now) (a .starts .now) (a .right .now) (a .state .read) (a .state .rest) (s .pre .0 .0) more h (s .pre .1 .1) .1 in (
-      record { state = c .moved-to .ensures; plan = forward-whole (a .left .now) (a .right .now) (a .state .read) (a .state .rest) (held-gap h) more },
-      held-forward (a .n) (a .left .now) (a .starts .now) (a .right .now) (a .state .read) (a .state .rest) _ _ h more e,
-    )
+    let h = s .pre .0 .2 in
+    let e = c .start-of-next .ensures ∙ next-word (a .n) (a .left .now) (a .starts .now) (a .right .now) (a .read) (a .rest) (s .pre .0 .0) more h (s .pre .1) .1 in
+    (forward-whole (a .left .now) (a .right .now) (a .read) (a .rest) (held-gap h) more, held-forward (a .n) (a .left .now) (a .starts .now) (a .right .now) (a .read) (a .rest) _ _ h more e)
 
 pub forward-spec : {M : Type 1} → statement M
 forward-spec =
@@ -59,9 +51,6 @@ forward-spec =
     mul-starts
     slice-write-starts
     slice-write-left
-    add-moved-to
-    add-moved-to-2
-    moved-to-requires
     same-length
     same-length-2
     returns)

@@ -14,7 +14,7 @@ use Rattle.graphsteps.proofs.Outcomes as out
 use Rattle.graphsteps.proofs.advance.Statement.{statement}
 use Rattle.graphsteps.proofs.advance.Tie as tie
 use Rattle.areas.specs.Area.{most-words}
-use Rattle.laws.specs.Laws.{highest-law}
+use Rattle.laws.specs.Laws.{highest-law, first-choice}
 
 abbrev held : tie.Start → Arrays
 held s = arrays (s .args .own .now) (s .args .first .now) (s .args .second .now) (s .args .sizes .now) (s .args .stack .now) (s .args .todo .now)
@@ -68,7 +68,7 @@ module _ (l : tie.After-redex-at) where
   old-less : (old-size ≤ begun .args .reading .size) × (old-size ≤ begun .args .reading .read + 1) × (begun .args .reading .size ≤ most-words) × (operands .take-operands .result .under < most-words)
   old-less = let o = operands in let k = o .before .before in let s = begun in out.old-less (s .args .tables .now) (s .pre .0 .1) (s .args .limit) (s .pre .0 .2) (s .args .allowed) (s .args .room) _ _ _ _ _ _ (s .args .reading) (fits s) (s .pre .0 .3) (low k) (high k) (o .take-operands .result) (o .take-operands .ensures) (some s)
 
-  bounds : (l .redex-at .result .law ≡ 0 → ⊥) → (5 ≤ l .redex-at .result .law) × (l .redex-at .result .law ≤ highest-law)
+  bounds : (l .redex-at .result .law ≡ 0 → ⊥) → (first-choice ≤ l .redex-at .result .law) × (l .redex-at .result .law ≤ highest-law)
   bounds e = let o = operands in let k = o .before .before in let s = begun in out.law-bounds (s .args .tables .now) (s .pre .0 .1) (s .args .limit) (s .pre .0 .2) (s .args .allowed) (s .args .room) _ _ _ _ _ _ (s .args .reading) (fits s) (s .pre .0 .3) (low k) (high k) (o .take-operands .result) (o .take-operands .ensures) _ (l .redex-at .result .law) chose (some s) e
 
 -- where a right side is put: the law that was sought, and what holds there

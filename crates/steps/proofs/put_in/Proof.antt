@@ -1,9 +1,10 @@
 -- `steps::put_in` meets its contract: the words taken away are copied to old, and the right side in front of the rest.
 use native.Mathlib.Omega.{arith}
 use borrow.Author.Needs.{needs}
-use Prim.Native.Nat.{_≤_, _<_}
+use Prim.Native.Nat.{_*_, _≤_, _<_}
 use mathlib.Core.Path.{sym}
 use lib.Seq.{length-take-le}
+use Rattle.areas.specs.Area.{most-words}
 use Rattle.steps.specs.Working.{start-here}
 use Rattle.steps.proofs.Making.{start-before}
 use Rattle.steps.proofs.Putting.{side-size, size-bound, not-put, now-put}
@@ -34,7 +35,7 @@ started : (s : tie.Start) → start-here (s .args .starts .now) (s .args .state)
 started s =
     start-before (s .args .tables .now) (s .args .left .now) (s .args .starts .now) (s .args .right .now) (s .args .state) (s .pre .1 .1) (s .pre .1 .0)
 
-few-words : (c : tie.After-right-len) → c .right-len .result ≤ 180224
+few-words : (c : tie.After-right-len) → c .right-len .result ≤ 11 * most-words
 few-words c =
     let s = entry c in
     let a = s .args in

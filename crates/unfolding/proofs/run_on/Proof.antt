@@ -4,7 +4,7 @@ use native.Mathlib.Omega.{arith}
 use borrow.Author.Needs.{needs}
 use mathlib.Core.Path.{sym, _∙_}
 use lib.ListN.{drop}
-use Rattle.unfolding.specs.Rounds.{RoundOf}
+use Rattle.rounds.specs.Rounds.{RoundOf}
 use Rattle.unfolding.proofs.Running.{Going, started, after-round, fewer, over}
 use Rattle.unfolding.proofs.run_on.Statement.{statement}
 use Rattle.unfolding.proofs.run_on.Tie as tie

@@ -7,7 +7,7 @@ use mathlib.Core.List.{List}
 use lib.ListN.{length, drop, replicate, length-replicate}
 use Rattle.areas.specs.Storing.{no-step, Stored}
 use Rattle.areas.proofs.Storing.{capacity-most, kept-storable}
-use Rattle.unfolding.specs.Rounds.{Given}
+use Rattle.rounds.specs.Rounds.{Given}
 use Rattle.unfolding.proofs.Settling.{cleared, plan-given, part-is, lawful, settle-finished, settle-stopped}
 use Rattle.unfolding.proofs.unfold_accepted.Statement.{statement}
 use Rattle.unfolding.proofs.unfold_accepted.Tie as tie

@@ -1,5 +1,5 @@
 -- `listing::lines::put_step` meets its contract: two labelled numbers and the end of the line, one after another.
-use Prim.Native.Nat.{ℕ, _+_, _*_}
+use Prim.Native.Nat.{ℕ}
 use borrow.Author.Needs.{needs}
 use mathlib.Core.List.{List, [], _++_}
 use Rattle.listing.specs.Text.{labelled, line-end, space}
@@ -8,21 +8,12 @@ use Rattle.listing.proofs.Writing.{Going, going-all, going-room, going-
 use Rattle.listing.proofs.lines.put_step.Statement.{statement}
 use Rattle.listing.proofs.lines.put_step.Tie as tie
 
-abbrev place : tie.Start → ℕ
-place s = s .args .low + 256 * (s .args .high)
-
 abbrev Now : tie.Start → List ℕ → ℕ → List ℕ → Type 0
-Now s d next rest = Going (s .args .out .now) (s .args .at) (step-line (s .args .law) (place s)) d next rest
+Now s d next rest = Going (s .args .out .now) (s .args .at) (step-line (s .args .law) (s .args .place)) d next rest
 
-start : (s : tie.Start) → Now s (s .args .out .now) (s .args .at) (labelled [] (s .args .law) ++ (labelled space (place s) ++ line-end))
+start : (s : tie.Start) → Now s (s .args .out .now) (s .args .at) (labelled [] (s .args .law) ++ (labelled space (s .args .place) ++ line-end))
 unfolding step-line
 start s = going-all _ _ _
-
-mul-place : tie.Need-mul-place
-mul-place c = search needs
-
-add-place : tie.Need-add-place
-add-place c = search needs
 
 slice-aggregate-put-labelled : tie.Need-slice-aggregate-put-labelled
 slice-aggregate-put-labelled c = search needs
@@ -30,9 +21,9 @@ slice-aggregate-put-labelled c = search needs
 put-labelled-requires : tie.Need-put-labelled-requires
 put-labelled-requires c κs =
     let s = c .before .before .before in
-    going-room (labelled [] (s .args .law)) (labelled space (place s) ++ line-end) (start s) (s .pre)
+    going-room (labelled [] (s .args .law)) (labelled space (s .args .place) ++ line-end) (start s) (s .pre)
 
-one : (c : tie.After-put-labelled) → Now (c .before .before .before .before) (c .put-labelled .last .1 .1 .0) (c .put-labelled .result) (labelled space (place (c .before .before .before .before)) ++ line-end)
+one : (c : tie.After-put-labelled) → Now (c .before .before .before .before) (c .put-labelled .last .1 .1 .0) (c .put-labelled .result) (labelled space (c .before .before .before .before .args .place) ++ line-end)
 one c = going-more (start (c .before .before .before .before)) (c .put-labelled .ensures) (c .put-labelled .kept .1 .1 .0)
 
 slice-aggregate-put-labelled-2 : tie.Need-slice-aggregate-put-labelled-2
@@ -42,7 +33,7 @@ put-labelled-requires-2 : tie.Need-put-labelled-requires-2
 put-labelled-requires-2 c κs =
     let k = c .before .before .before .before in
     let s = k .before .before .before .before in
-    going-room (labelled space (place s)) line-end (one k) (s .pre)
+    going-room (labelled space (s .args .place)) line-end (one k) (s .pre)
 
 two : (c : tie.After-put-labelled2) → Now (c .before .before .before .before .before .before .before .before .before) (c .put-labelled2 .last .1 .1 .0) (c .put-labelled2 .result) line-end
 two c = going-more (one (c .before .before .before .before .before)) (c .put-labelled2 .ensures) (c .put-labelled2 .kept .1 .1 .0)
@@ -60,8 +51,6 @@ pub put-step-spec : {M : Type 1} → statement M
 put-step-spec =
     tie.close
     (tie.spec
-    mul-place
-    add-place
     slice-aggregate-put-labelled
     put-labelled-requires
     slice-aggregate-put-labelled-2

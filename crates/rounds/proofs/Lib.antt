@@ -1,0 +1,2 @@
+mod Loading
+mod OneRound

@@ -1,0 +1,211 @@
+//! Prints, as Markdown tables, what a step takes in an earlier proved library and in the one of
+//! now, measured in turns. Ends at the first call on which they differ.
+
+use before::BEFORE;
+use benchmarks::contenders::{Contender, PROVED};
+use benchmarks::measuring::{cell, least_times, mean};
+use benchmarks::workloads::{
+    growing_sums, merges_in_growing_areas, merges_of_longer_chains, sizes, Places, Replay,
+    Workload, REPLAYED,
+};
+
+fn main() {
+    println!("Nanoseconds for a step. Each number is the least of several turns, which the two");
+    println!("libraries took one after the other; they agreed in every number answered and in");
+    println!(
+        "every lent byte. Steps alone: the call less the same call with a plan of one action."
+    );
+    unfoldings();
+    replays();
+}
+
+/// Both libraries.
+fn libraries() -> [Contender; 2] {
+    [
+        BEFORE,
+        PROVED.expect("the library is linked with this command"),
+    ]
+}
+
+/// Compares both libraries once.
+fn compare(name: &str, call: &mut impl Workload) {
+    let [before, now] = libraries().map(|library| call.outcome(library));
+    assert!(before == now, "{name}: the libraries differ");
+}
+
+fn unfoldings() {
+    println!("\n| unfolding | | | steps | call: before | now | now/before | steps alone: before | now | now/before |");
+    println!("|---|--:|--:|--:|--:|--:|--:|--:|--:|--:|");
+    let sums = growing_sums().map(|(names, sum)| (format!("sum | {names}"), sum));
+    let merges = merges_in_growing_areas().map(|(names, merge)| (format!("{names} | 2"), merge));
+    let longer = merges_of_longer_chains()
+        .map(|(names, merge)| (names.replacen('|', "| 16384 |", 1), merge));
+    let (mut calls, mut alone) = (Vec::new(), Vec::new());
+    for (names, mut unfolding) in merges.chain(longer).chain(sums) {
+        compare(&names, &mut unfolding);
+        let mut empty = unfolding.without_steps();
+        let times: [f64; 4] = least_times(|index| {
+            let library = libraries()[index % 2];
+            match index {
+                0..2 => unfolding.run(library),
+                _ => empty.run(library),
+            };
+        });
+        let steps = unfolding.steps;
+        let call = Pair::new(times[0], times[1], steps);
+        let steps_alone = Pair::new(times[0] - times[2], times[1] - times[3], steps);
+        println!(
+            "| {names} | {steps} | {} | {} |",
+            call.cells(),
+            steps_alone.cells()
+        );
+        calls.push(call.ratio());
+        alone.push(steps_alone.ratio());
+    }
+    let [calls, alone] = [calls, alone].map(|ratios| cell(mean(&ratios)));
+    println!("| geometric mean | | | | | | {calls} | | | {alone} |");
+}
+
+fn replays() {
+    println!("\n| checking | words | steps | call: before | now | now/before |");
+    println!("|---|--:|--:|--:|--:|--:|");
+    let mut ratios = Vec::new();
+    for (name, places, most) in [
+        ("near", Places::Near, REPLAYED.0),
+        ("far", Places::Far, REPLAYED.1),
+    ] {
+        for words in sizes() {
+            let mut replay = Replay::new(words, places, most);
+            compare(name, &mut replay);
+            let (_, steps, size) = replay.run(BEFORE);
+            let [before, now] = least_times(|index| {
+                replay.run(libraries()[index]);
+            });
+            let call = Pair::new(before, now, steps);
+            println!("| {name} | {size} | {steps} | {} |", call.cells());
+            ratios.push(call.ratio());
+        }
+    }
+    println!("| geometric mean | | | | | {} |", cell(mean(&ratios)));
+}
+
+/// What one of so many parts takes, before and now.
+struct Pair {
+    before: f64,
+    now: f64,
+}
+
+impl Pair {
+    fn new(before: f64, now: f64, parts: usize) -> Pair {
+        let parts = parts as f64;
+        Pair {
+            before: before / parts,
+            now: now / parts,
+        }
+    }
+
+    fn ratio(&self) -> f64 {
+        self.now / self.before
+    }
+
+    fn cells(&self) -> String {
+        let numbers = [self.before, self.now, self.ratio()];
+        numbers.map(|number| cell(Some(number))).join(" | ")
+    }
+}
+
+/// The earlier library; docs/BENCHMARKS.md says how its archive is made, with its calls renamed.
+mod before {
+    use benchmarks::contenders::{Contender, Ended};
+
+    extern "C" {
+        fn before_unfold(
+            tables: *const u8,
+            tables_len: usize,
+            plan: *const u8,
+            plan_len: usize,
+            allowance: u32,
+            list: *mut u8,
+            list_len: usize,
+            a: *mut u8,
+            a_len: usize,
+            b: *mut u8,
+            b_len: usize,
+            steps: *mut usize,
+            size: *mut usize,
+            place: *mut usize,
+        ) -> u8;
+
+        fn before_check_rewriting(
+            tables: *const u8,
+            tables_len: usize,
+            start: *const u8,
+            start_len: usize,
+            claimed: *const u8,
+            claimed_len: usize,
+            rewriting: *const u8,
+            rewriting_len: usize,
+            a: *mut u8,
+            a_len: usize,
+            b: *mut u8,
+            b_len: usize,
+            steps: *mut usize,
+            size: *mut usize,
+            place: *mut usize,
+        ) -> u8;
+    }
+
+    pub const BEFORE: Contender = Contender {
+        unfold: |tables, plan, allowance, list, a, b| {
+            // SAFETY: slices that Rust has borrowed, each as a pointer and a length; see
+            // `aberulwy::raw`, which calls the library of now in the same way.
+            ended(|steps, size, place| unsafe {
+                before_unfold(
+                    tables.as_ptr(),
+                    tables.len(),
+                    plan.as_ptr(),
+                    plan.len(),
+                    allowance,
+                    list.as_mut_ptr(),
+                    list.len(),
+                    a.as_mut_ptr(),
+                    a.len(),
+                    b.as_mut_ptr(),
+                    b.len(),
+                    steps,
+                    size,
+                    place,
+                )
+            })
+        },
+        check_rewriting: |tables, start, claimed, rewriting, a, b| {
+            // SAFETY: as above.
+            ended(|steps, size, place| unsafe {
+                before_check_rewriting(
+                    tables.as_ptr(),
+                    tables.len(),
+                    start.as_ptr(),
+                    start.len(),
+                    claimed.as_ptr(),
+                    claimed.len(),
+                    rewriting.as_ptr(),
+                    rewriting.len(),
+                    a.as_mut_ptr(),
+                    a.len(),
+                    b.as_mut_ptr(),
+                    b.len(),
+                    steps,
+                    size,
+                    place,
+                )
+            })
+        },
+    };
+
+    /// Makes a call that sets steps, size and place.
+    fn ended(call: impl FnOnce(&mut usize, &mut usize, &mut usize) -> u8) -> Ended {
+        let (mut steps, mut size, mut place) = (0, 0, 0);
+        let number = call(&mut steps, &mut size, &mut place);
+        (number, steps, size)
+    }
+}
