@@ -1,5 +1,5 @@
 -- The law that what the operands are tell is the lowest of laws 5 to 32 that fits, and its letters stand for what they are bound to.
-use Prim.Native.Nat.{ℕ, _≤_}
+use Prim.Native.Nat.{ℕ, _+_, _≤_}
 use mathlib.Core.Path.{_≡_, refl, _∙_}
 use native.Mathlib.Omega.{arith}
 use Rattle.tables.specs.Tables.{Tables, actions}
@@ -8,20 +8,50 @@ use Rattle.plans.specs.declared.Binary.{Binary}
 use Rattle.plans.specs.declared.Binary.the-variants.{Choice, Sequence, Merge, LeftMerge, CommunicationMerge, Unless}
 use Rattle.plans.specs.declared.Unary.{Unary}
 use Rattle.plans.specs.declared.Unary.the-variants.{Priority, Encapsulation}
-use Rattle.plans.specs.declared.Word.the-variants.{One, Two}
-use Rattle.plans.specs.Word.{unary-word, binary-word}
+use Rattle.plans.specs.declared.Word.{Word}
+use Rattle.plans.specs.declared.Word.the-variants.{Action, One, Two, NoWord}
+use Rattle.plans.specs.Word.{unary-word, binary-word, word-of}
 use Rattle.plans.specs.Term.{Term, un, bin, Set-number}
 use Rattle.plans.proofs.Words.{word-unary, word-binary}
 use Rattle.graph.specs.Graph.{Graph, Holds, Root, root-one, root-two}
 use Rattle.rewritings.specs.Roots.{first-law}
 use Rattle.redexes.specs.declared.Redex.{Redex}
 use Rattle.redexes.specs.Slots.{RootTerm, ChosenRoot, slots-of}
-use Rattle.redexes.specs.Redexes.{operand-of, Small, redex-under, redex-of}
+use Rattle.redexes.specs.Redexes.{
+  operand-of,
+  Small,
+  no-redex,
+  on-plans,
+  choice-redex,
+  sequence-redex,
+  left-merge-redex,
+  communication-redex,
+  unless-redex,
+  priority-redex,
+  encapsulation-redex,
+}
 use Rattle.redexes.proofs.Operands.{seen, small}
 use Rattle.redexes.proofs.Letters.{Told, told-chosen, told-actions}
 use Rattle.redexes.proofs.OneOperand.{choice-told, merge-told, sequence-told, left-merge-told, priority-told, encapsulation-told}
 use Rattle.redexes.proofs.TwoOperands.{communication-told, unless-told}
 use Rattle.laws.specs.Laws.{first-choice, choices}
+
+-- what the operands a and b tell, by the operator
+unfoldable pub redex-under : Tables → Graph → Word → ℕ → ℕ → Redex
+redex-under t g (Action v) a b = no-redex
+redex-under t g (One Priority) a b = priority-redex (operand-of g a)
+redex-under t g (One (Encapsulation h)) a b = encapsulation-redex t (80 + h) (operand-of g a)
+redex-under t g (Two Choice) a b = choice-redex a b
+redex-under t g (Two Sequence) a b = sequence-redex b (operand-of g a)
+redex-under t g (Two Merge) a b = on-plans 11 a b 0
+redex-under t g (Two LeftMerge) a b = left-merge-redex b (operand-of g a)
+redex-under t g (Two CommunicationMerge) a b = communication-redex a b (operand-of g a) (operand-of g b)
+redex-under t g (Two Unless) a b = unless-redex t a b (operand-of g a) (operand-of g b)
+redex-under t g NoWord a b = no-redex
+
+-- by the operator's word
+unfoldable pub redex-of : Tables → Graph → ℕ → ℕ → ℕ → Redex
+redex-of t g w a b = redex-under t g (word-of (actions t) w) a b
 
 -- what is under a word 0 is a word
 pub operand-small : {n : ℕ} {g : Graph} {v : ℕ} {u : Term} → n ≤ 31 → Holds n g v u → Small (operand-of g v)

@@ -1,16 +1,11 @@
 -- Nobody need believe this file: what it says is carried by the theorem `redex-chosen`. The law that fits at the root of a term in a graph and what
 -- its letters stand for, told by what the operands are.
-use Prim.Native.Nat.{ℕ, _+_, _-_, _<_}
+use Prim.Native.Nat.{ℕ, _-_, _<_}
 use mathlib.Core.Path.{_≡_}
 use mathlib.Core.Bool.{Bool, true, false, cond, _&&_}
 use lib.ListN.{getD}
 use lib.Dec.{eqb, ltb}
-use Rattle.tables.specs.Tables.{Tables, actions, blocked, below}
-use Rattle.plans.specs.declared.Binary.the-variants.{Choice, Sequence, Merge, LeftMerge, CommunicationMerge, Unless}
-use Rattle.plans.specs.declared.Unary.the-variants.{Priority, Encapsulation}
-use Rattle.plans.specs.declared.Word.{Word}
-use Rattle.plans.specs.declared.Word.the-variants.{Action, One, Two, NoWord}
-use Rattle.plans.specs.Word.{word-of}
+use Rattle.tables.specs.Tables.{Tables, blocked, below}
 use Rattle.graph.specs.Graph.{Graph}
 use Rattle.redexes.specs.declared.root.Operand.{Operand}
 use Rattle.redexes.specs.declared.Redex.{Redex}
@@ -96,20 +91,3 @@ encapsulation-redex t w p =
     cond (eqb (p .sign) 64) (on-set 22 w 0 (p .first) (p .second))
     (cond (eqb (p .sign) 65) (on-set 23 w 0 (p .first) (p .second))
     (cond (eqb (p .sign) 0) (cond (blocked t (w - 80) (p .first)) (on-set 21 w (p .first) 0 0) (on-set 20 w (p .first) 0 0)) no-redex))
-
--- by the operator, over the operands a and b
-unfoldable pub redex-under : Tables → Graph → Word → ℕ → ℕ → Redex
-redex-under t g (Action v) a b = no-redex
-redex-under t g (One Priority) a b = priority-redex (operand-of g a)
-redex-under t g (One (Encapsulation h)) a b = encapsulation-redex t (80 + h) (operand-of g a)
-redex-under t g (Two Choice) a b = choice-redex a b
-redex-under t g (Two Sequence) a b = sequence-redex b (operand-of g a)
-redex-under t g (Two Merge) a b = on-plans 11 a b 0
-redex-under t g (Two LeftMerge) a b = left-merge-redex b (operand-of g a)
-redex-under t g (Two CommunicationMerge) a b = communication-redex a b (operand-of g a) (operand-of g b)
-redex-under t g (Two Unless) a b = unless-redex t a b (operand-of g a) (operand-of g b)
-redex-under t g NoWord a b = no-redex
-
--- by the operator's word
-unfoldable pub redex-of : Tables → Graph → ℕ → ℕ → ℕ → Redex
-redex-of t g w a b = redex-under t g (word-of (actions t) w) a b

@@ -19,10 +19,14 @@ use Rattle.plans.proofs.Options.{never}
 use Rattle.plans.proofs.Start.{subterm-prefix}
 use Rattle.laws.specs.Laws.{law-at, rewrite, first-choice, choices}
 use Rattle.laws.specs.Step.{step}
-use Rattle.rewritings.specs.Roots.{law-term, first-law, else-law, first-term}
+use Rattle.rewritings.specs.Roots.{law-term, first-law, else-law}
 use Rattle.rewritings.specs.Choice.{found-at, lowest-law, next-step}
 use Rattle.rewritings.proofs.Finding.{none-search, search-first}
 use Rattle.rewritings.proofs.Choosing.{none-fits, fits-none}
+
+-- the lowest of laws 5 to 32 that fits at a plan's last word
+unfoldable pub first-term : Tables → ℕ → List ℕ → Option (ℕ × Term)
+first-term t n plan = and-then (subterm n plan (length plan - 1)) (λ u. first-law t first-choice choices u)
 
 -- the plan that a term v gives at the last of the words pre, with the words suf behind
 abbrev pub put-last : ℕ → List ℕ → List ℕ → List ℕ → List ℕ

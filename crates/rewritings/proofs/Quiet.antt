@@ -25,11 +25,11 @@ use Rattle.plans.proofs.Place.{stack-at, stack-subterm}
 use Rattle.plans.proofs.Start.{subterm-prefix}
 use Rattle.laws.specs.Laws.{highest-law, laws, law-at, rewrite, fit, first-choice, choices}
 use Rattle.laws.specs.Step.{step}
-use Rattle.rewritings.specs.Roots.{first-law, first-term}
+use Rattle.rewritings.specs.Roots.{first-law}
 use Rattle.plans.proofs.Standing.{height, Stands, stands-subterm, stands-start, words-some}
 use Rattle.rewritings.specs.Choice.{next-step}
 use Rattle.rewritings.proofs.Choosing.{none-fits, fits-none}
-use Rattle.rewritings.proofs.Prefixes.{put-last, no-fit, scan-on, scan-found}
+use Rattle.rewritings.proofs.Prefixes.{first-term, put-last, no-fit, scan-on, scan-found}
 
 -- words that are read alone are read the same with terms waiting under them: reading never touches those
 push-under : (k : Word) (s r S : List Term) → push k s ≡ some r → push k (s ++ S) ≡ some (r ++ S)

@@ -6,7 +6,7 @@ use lib.ListN.{length}
 use Rattle.tables.specs.Tables.{Tables}
 use Rattle.plans.specs.Term.{Term, and-then}
 use Rattle.plans.specs.Place.{subterm}
-use Rattle.laws.specs.Laws.{law-at, rewrite, first-choice, choices}
+use Rattle.laws.specs.Laws.{law-at, rewrite}
 
 -- the term that law k gives at a plan's last word
 unfoldable pub law-term : Tables → ℕ → ℕ → List ℕ → Option Term
@@ -20,7 +20,3 @@ else-law (some v) k r = some (k, v)
 unfoldable pub first-law : Tables → ℕ → ℕ → Term → Option (ℕ × Term)
 first-law t k zero u = none
 first-law t k (suc m) u = else-law (rewrite t (law-at k) u) k (first-law t (suc k) m u)
-
--- the lowest of laws 5 to 32 that fits at a plan's last word
-unfoldable pub first-term : Tables → ℕ → List ℕ → Option (ℕ × Term)
-first-term t n plan = and-then (subterm n plan (length plan - 1)) (λ u. first-law t first-choice choices u)

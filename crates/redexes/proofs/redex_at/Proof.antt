@@ -9,8 +9,7 @@ use Rattle.plans.specs.declared.Binary.the-variants.{Choice, Sequence, Merge, L
 use Rattle.plans.specs.declared.Unary.the-variants.{Priority, Encapsulation}
 use Rattle.plans.specs.Word.{binary-word, unary-word}
 use Rattle.graph.proofs.Reading.{holds-inside}
-use Rattle.redexes.specs.Redexes.{redex-under}
-use Rattle.redexes.proofs.Redexes.{few, operand-small, one-chosen, two-chosen}
+use Rattle.redexes.proofs.Redexes.{few, operand-small, redex-under, one-chosen, two-chosen}
 use Rattle.redexes.proofs.Roots.{first-operand, second-operand, encapsulation-word}
 use Rattle.redexes.proofs.redex_at.Statement.{statement}
 use Rattle.redexes.proofs.redex_at.Tie as tie
