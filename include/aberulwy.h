@@ -1,12 +1,13 @@
 /* Aberulwy: verified process algebra. The public calls for C, as crate `aberulwy_c` defines them.
  *
- * What is returned: document 01's number, 0 where nothing is refused and nothing stops the call. aberulwy_reached and aberulwy_list_station, which
- * have no number there, return 0, or 1 where the area handed in is too short. All else that a call answers is in its out numbers (size_t *), each
- * of which is set in every case: *place is the printed form of the place (a byte's index, a step's index, or 1024 a + 32 b + c for a triple of
- * actions; 0 where none is named), and the others are 0 where the call is refused.
+ * What is returned: a number of docs/NUMBERS.md, 0 where nothing is refused and nothing stops the call. aberulwy_reached and aberulwy_list_station,
+ * which have no number there, return 0, or 1 where the area handed in is too short. All else that a call answers is in its out numbers (size_t *),
+ * each of which is set in every case: *place is the printed form of the place (a byte's index, a step's index, or 1024 a + 32 b + c for a triple of
+ * actions; 0 where none is named), and the others are 0 where the call is refused. docs/FORMATS.md has the bytes of tables, plans, rewritings and
+ * station files.
  *
- * A call takes slices of any length, each a pointer and a length, reads and writes nothing else, and ends. What it may write to must not overlap
- * anything else handed to it, and no pointer may be null, even where its length is 0.
+ * A call takes slices of any length, each a pointer and a length. It reads and writes nothing but these and its out numbers, and it ends. What it
+ * may write to must not overlap anything else handed to it, and no pointer may be null, even where its length is 0.
  *
  * Stack: allow 640 KiB for aberulwy_list_station, 512 KiB for aberulwy_unfold and aberulwy_unfold_checked, 128 KiB for aberulwy_check_rewriting, and
  * 64 KiB for each other call. Measured in threads on x86-64 Linux, the first three need 486, 354 and 86 KiB, and the others at most 32. Nothing
@@ -19,6 +20,8 @@
 
 #include <stddef.h>
 #include <stdint.h>
+
+#define ABERULWY_VERSION "0.5.0"
 
 #ifdef __cplusplus
 extern "C" {

@@ -307,7 +307,8 @@ mod tests {
     use super::*;
     use crate::tables::trial_tables;
 
-    /// The laws as document 01 prints them, without their conditions in words.
+    /// The laws as `docs/NUMBERS.md` prints them, without their conditions in words, and with c
+    /// for the table entry of law 10.
     const PRINTED: [&str; 32] = [
         "x+y → y+x",
         "x+(y+z) → (x+y)+z",

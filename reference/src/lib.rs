@@ -1,15 +1,17 @@
 //! A second, independent implementation of the station plan unfolder and of
-//! the rewriting checker, written from document 01 alone.
+//! the rewriting checker, written from the customer's scope document alone.
 //!
 //! It is plain and unhurried: every answer, refusal and lent byte is computed
 //! by the shortest rendering of the sentence that asks for it, so that another
 //! implementation can be compared with it byte for byte. Each item quotes the
-//! sentence of document 01 that it renders.
+//! sentence that it renders. `docs/FORMATS.md` and `docs/NUMBERS.md` tell the
+//! bytes and the numbers. [`descriptions`] and [`random`] are this folder's own.
 
 #![forbid(unsafe_code)]
 #![warn(missing_docs)]
 
 pub mod checking;
+pub mod descriptions;
 pub mod laws;
 pub mod own;
 pub mod plans;

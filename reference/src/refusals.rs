@@ -17,7 +17,7 @@ pub enum Place {
 /// What is answered when something handed in is turned back.
 #[derive(Clone, Copy, Debug, PartialEq, Eq, Hash)]
 pub struct Refusal {
-    /// The number under which document 01 lists the refusal.
+    /// The refusal's number, as `docs/NUMBERS.md` lists them.
     pub number: u8,
     /// Where it was met.
     pub place: Place,

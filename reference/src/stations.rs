@@ -16,7 +16,8 @@ pub const HEAD: usize = 6;
 /// "Blocks 0 to 3 hold 504 each and block 4 holds 289 of tables".
 pub const TABLE_BLOCKS: usize = 5;
 const FEWEST_BLOCKS: usize = 6;
-const MOST_BLOCKS: usize = 38;
+/// The blocks of the longest station file.
+pub const MOST_BLOCKS: usize = 38;
 const KIND_TABLES: usize = 1;
 const KIND_PLAN: usize = 2;
 

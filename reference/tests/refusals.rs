@@ -1,4 +1,4 @@
-//! Every number of document 01 is reached by the random cases.
+//! Every number of `docs/NUMBERS.md` is reached by the random cases.
 
 use reference::random::cases::{check_case, station_case, unfold_case};
 use reference::random::Random;

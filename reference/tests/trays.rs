@@ -1,4 +1,4 @@
-//! The twelve trial trays of document 01.
+//! The twelve trial trays.
 
 use reference::plans::{is_basic, orders};
 use reference::random::cases::{own_rewriting_case, UnfoldCase, Unfolded};

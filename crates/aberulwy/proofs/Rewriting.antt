@@ -22,12 +22,13 @@ use Rattle.checking.specs.declared.Checked.{Checked}
 use Rattle.checking.specs.declared.Checked.the-variants.{Accepted, TurnedBack}
 use Rattle.checking.specs.Checking.{Replay, replay-of, checked, check-refusal, check-outcome, CheckOutcome}
 use Rattle.checking.specs.Checking as checking-of
-use Rattle.demands.specs.Claims.{UnfoldGiven, CheckGiven, Reports, finished, stopped, own-rewriting, UnfoldClaims, CheckClaims, StepClaims}
+use Rattle.demands.specs.Claims.{unfold-given, check-given, Reports, finished, stopped, own-rewriting, UnfoldClaims, CheckClaims, StepClaims}
 use Rattle.aberulwy.specs.declared.OwnCheck.the-variants.{Checked as Checked-as, NotChecked as Nothing-checked}
 use Rattle.demands.proofs.Running.{run-records-long}
 use Rattle.demands.proofs.Claims.{unfold-claims, check-claims, take-padded, reached-is, reports-run}
 use Rattle.demands.proofs.Single.{step-claims}
-use Rattle.aberulwy.specs.Rewriting.{unfold-report, check-report, own-report, reported-run, reported-replay, reported-own, OwnOutcome, BothOutcome, own-outcome, check-own, both-outcome, OwnAccepted}
+use Rattle.aberulwy.specs.Rewriting.{unfold-report, unfold-reported, check-report, check-reported, own-report, own-reported}
+use Rattle.aberulwy.specs.Rewriting.{reported-run, reported-replay, reported-own, OwnOutcome, BothOutcome, own-outcome, check-own, both-outcome, OwnAccepted}
 
 run-numbers : (r : Run) → unfold-report (unfolded r) ≡ record { number = r .number; place = 0; values = r .steps ∷ length (r .plan) ∷ [] }
 run-numbers r = go (eqb (r .number) 0) refl
@@ -49,10 +50,7 @@ replay-numbers r = go (eqb (r .number) 0) refl
 
 -- the outcome of an unfolding carries everything that its contract says
 module _ (t : Tables) (plan : List ℕ) (m : ℕ) (list a b : List ℕ) where
-  abbrev unfold-given : UnfoldGiven
-  unfold-given = record { tables = t; plan = plan; allowance = m; list = list; a = a; b = b }
-
-  unfold-numbers : unfold-report (unfold-outcome t plan m list a b .answer) ≡ reported-run (unfold-refusal t plan (capacity a b)) (run-of t plan m (length list) (capacity a b))
+  unfold-numbers : unfold-report (unfold-outcome t plan m list a b .answer) ≡ unfold-reported t plan m list a b
   unfolding unfold-outcome
   unfold-numbers = go (unfold-refusal t plan (capacity a b))
     where
@@ -63,23 +61,20 @@ module _ (t : Tables) (plan : List ℕ) (m : ℕ) (list a b : List ℕ) where
 
   pub unfold-contract : (o : UnfoldOutcome) → o ≡ unfold-outcome t plan m list a b
       → (o ≡ unfold-outcome t plan m list a b)
-      × ((unfold-report (o .answer) ≡ reported-run (unfold-refusal t plan (capacity a b)) (run-of t plan m (length list) (capacity a b)))
-      × UnfoldClaims unfold-given o)
+      × ((unfold-report (o .answer) ≡ unfold-reported t plan m list a b)
+      × UnfoldClaims (unfold-given t plan m list a b) o)
   unfold-contract o e = (
     e,
     (
       ap (λ (x : UnfoldOutcome). unfold-report (x .answer)) e ∙ unfold-numbers,
-      subst (UnfoldClaims unfold-given) (sym e) (unfold-claims t plan m list a b),
+      subst (UnfoldClaims (unfold-given t plan m list a b)) (sym e) (unfold-claims t plan m list a b),
     ),
   )
 
 -- and so does that of a check
 module _ (t : Tables) (start claimed rewriting a b : List ℕ) where
-  abbrev check-given : CheckGiven
-  check-given = record { tables = t; start = start; claimed = claimed; rewriting = rewriting; a = a; b = b }
-
   check-numbers : check-report (check-outcome t start claimed rewriting a b .answer)
-      ≡ reported-replay (check-refusal t start claimed rewriting (capacity a b)) (replay-of t start claimed rewriting (capacity a b))
+      ≡ check-reported t start claimed rewriting a b
   unfolding check-outcome
   check-numbers = go (check-refusal t start claimed rewriting (capacity a b))
     where
@@ -90,15 +85,15 @@ module _ (t : Tables) (start claimed rewriting a b : List ℕ) where
 
   pub check-contract : (o : CheckOutcome) → o ≡ check-outcome t start claimed rewriting a b
       → (o ≡ check-outcome t start claimed rewriting a b)
-      × ((check-report (o .answer) ≡ reported-replay (check-refusal t start claimed rewriting (capacity a b)) (replay-of t start claimed rewriting (capacity a b)))
-      × (CheckClaims t start claimed (o .answer) × StepClaims check-given o))
+      × ((check-report (o .answer) ≡ check-reported t start claimed rewriting a b)
+      × (CheckClaims t start claimed (o .answer) × StepClaims (check-given t start claimed rewriting a b) o))
   check-contract o e = (
     e,
     (
       ap (λ (x : CheckOutcome). check-report (x .answer)) e ∙ check-numbers,
       (
         subst (λ (x : CheckOutcome). CheckClaims t start claimed (x .answer)) (sym e) (check-claims t start claimed rewriting a b),
-        subst (StepClaims check-given) (sym e) (step-claims t start claimed rewriting a b),
+        subst (StepClaims (check-given t start claimed rewriting a b)) (sym e) (step-claims t start claimed rewriting a b),
       ),
     ),
   )
@@ -125,7 +120,7 @@ module _ (t : Tables) (plan : List ℕ) (m : ℕ) (list a b c d : List ℕ) wher
       (ap (λ (x : Report). some x) (check-numbers t plan (r .plan) (bytes-of (r .moves)) c d))
 
   own-numbers : own-report (check-own t plan (unfold-outcome t plan m list a b) (unfold-outcome t plan m list a b .answer) c d .answer)
-      ≡ reported-own (unfold-refusal t plan (capacity a b)) t plan (run-of t plan m (length list) (capacity a b)) (capacity c d)
+      ≡ own-reported t plan m list a b c d
   unfolding unfold-outcome check-own
   own-numbers = go (unfold-refusal t plan (capacity a b))
     where
@@ -140,8 +135,8 @@ module _ (t : Tables) (plan : List ℕ) (m : ℕ) (list a b c d : List ℕ) wher
   abbrev Left : UnfoldOutcome → OwnOutcome → Type 0
   Left o w =
       (_≡_ {A = BothOutcome} (record { unfolded = o; own = w }) (both-outcome t plan m list a b c d))
-      × (((unfold-report (o .answer) ≡ reported-run (unfold-refusal t plan (capacity a b)) (run-of t plan m (length list) (capacity a b)))
-      × (own-report (w .answer) ≡ reported-own (unfold-refusal t plan (capacity a b)) t plan (run-of t plan m (length list) (capacity a b)) (capacity c d)))
+      × (((unfold-report (o .answer) ≡ unfold-reported t plan m list a b)
+      × (own-report (w .answer) ≡ own-reported t plan m list a b c d))
       × (UnfoldClaims (unfold-given t plan m list a b) o × OwnAccepted (o .answer) (w .answer) a b c d))
 
   pub both-contract : (o : UnfoldOutcome) (w : OwnOutcome) → o ≡ unfold-outcome t plan m list a b → w ≡ check-own t plan o (o .answer) c d → Left o w

@@ -4,7 +4,7 @@ use mathlib.Core.Bool.{Bool, true, false}
 use mathlib.Core.List.{List, [], _∷_}
 use mathlib.Core.Option.{Option, none, some}
 use Rattle.refusals.specs.declared.Refusal.{Refusal}
-use Rattle.refusals.specs.Refusal.{Report, refused-report}
+use Rattle.refusals.specs.Refusal.{Report, refused-report, reported}
 use Rattle.tables.specs.Tables.{Tables, actions}
 use Rattle.plans.specs.Judging.{plan-refusal}
 use Rattle.plans.specs.Basic.{basic-words?, orders-of}
@@ -33,6 +33,10 @@ abbrev pub bit : Bool → ℕ
 bit true = 1
 bit false = 0
 
+-- what is reported of tables and a plan that are asked about
+abbrev pub basic-reported : Tables → List ℕ → Report
+basic-reported t ws = reported (plan-refusal t ws) (bit (basic-words? (actions t) ws) ∷ [])
+
 -- the orders of a plan, where nothing is refused
 abbrev pub orders-given : Option Refusal → ℕ → OrdersAnswer
 orders-given (some r) k = Not-counted r
@@ -45,3 +49,6 @@ orders-answer t ws = orders-given (plan-refusal t ws) (orders-of (actions t) ws)
 abbrev pub orders-report : OrdersAnswer → Report
 orders-report (Count k) = record { number = 0; place = 0; values = k ∷ [] }
 orders-report (Not-counted r) = refused-report r
+
+abbrev pub orders-reported : Tables → List ℕ → Report
+orders-reported t ws = reported (plan-refusal t ws) (orders-of (actions t) ws ∷ [])

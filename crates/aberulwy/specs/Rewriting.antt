@@ -5,14 +5,14 @@ use mathlib.Core.List.{List, [], _∷_}
 use mathlib.Core.Option.{Option, none, some}
 use lib.ListN.{length}
 use Rattle.tables.specs.Tables.{Tables}
-use Rattle.areas.specs.Reached.{even?, reached-part}
+use Rattle.areas.specs.Reached.{capacity, even?, reached-part}
 use Rattle.rewritings.specs.Records.{bytes-of}
 use Rattle.refusals.specs.declared.Refusal.{Refusal}
 use Rattle.refusals.specs.Refusal.{Report, refused-report}
 use Rattle.unfolding.specs.declared.Unfolded.{Unfolded}
 use Rattle.unfolding.specs.declared.Unfolded.the-variants.{Finished, Stopped, Refused as Not-unfolded}
-use Rattle.rewritings.specs.Runs.{Run}
-use Rattle.unfolding.specs.Unfolding.{unfold-outcome, UnfoldOutcome}
+use Rattle.rewritings.specs.Runs.{Run, run-of}
+use Rattle.unfolding.specs.Unfolding.{unfold-refusal, unfold-outcome, UnfoldOutcome}
 use Rattle.checking.specs.declared.Checked.{Checked}
 use Rattle.checking.specs.declared.Checked.the-variants.{Accepted, TurnedBack, Refused as Not-checked}
 use Rattle.checking.specs.Checking.{Replay, replay-of, check-refusal, check-outcome, CheckOutcome}
@@ -41,6 +41,15 @@ abbrev pub reported-replay : Option Refusal → Replay → Report
 reported-replay none r = record { number = r .number; place = 0; values = r .steps ∷ length (r .plan) ∷ [] }
 reported-replay (some f) r = refused-report f
 
+-- the same by what is given: an unfolding, and a check
+abbrev pub unfold-reported : Tables → List ℕ → ℕ → List ℕ → List ℕ → List ℕ → Report
+unfold-reported t plan m list a b =
+    reported-run (unfold-refusal t plan (capacity a b)) (run-of t plan m (length list) (capacity a b))
+
+abbrev pub check-reported : Tables → List ℕ → List ℕ → List ℕ → List ℕ → List ℕ → Report
+check-reported t start claimed rewriting a b =
+    reported-replay (check-refusal t start claimed rewriting (capacity a b)) (replay-of t start claimed rewriting (capacity a b))
+
 -- each case of the check of an unfolding's own rewriting: the check's report, and none where nothing was checked
 abbrev pub own-report : OwnCheck → Option Report
 own-report (Checked-as x) = some (check-report x)
@@ -52,6 +61,11 @@ abbrev pub reported-own : Option Refusal → Tables → List ℕ → Run → ℕ
 reported-own none t plan r c =
     some (reported-replay (check-refusal t plan (r .plan) (bytes-of (r .moves)) c) (replay-of t plan (r .plan) (bytes-of (r .moves)) c))
 reported-own (some f) t plan r c = none
+
+-- the same by what is given to the unfolding, and the areas c and d of the check
+abbrev pub own-reported : Tables → List ℕ → ℕ → List ℕ → List ℕ → List ℕ → List ℕ → List ℕ → Option Report
+own-reported t plan m list a b c d =
+    reported-own (unfold-refusal t plan (capacity a b)) t plan (run-of t plan m (length list) (capacity a b)) (capacity c d)
 
 -- the check of an unfolding's own rewriting, and everything that both answer and leave
 pub record OwnOutcome : Type 0 where

@@ -7,26 +7,24 @@ use refusals::Refusal;
 use stations::StationRead;
 use unfolding::Unfolded;
 ghost use mathlib.Core.Path.{_≡_};
-ghost use mathlib.Core.List.{_∷_, []};
+ghost use mathlib.Core.List.{[]};
 ghost use mathlib.Core.Logic.{_↔_};
+ghost use lib.ListN.{take};
 ghost use Rattle.refusals.specs.declared.Judgement.the-variants.{Accepted};
 ghost use Rattle.refusals.specs.Refusal.{judged, report, reported};
-ghost use Rattle.tables.specs.Tables.{actions};
 ghost use Rattle.tables.specs.Judging.{table-refusal};
 ghost use Rattle.tables.specs.Lawful.{Lawful};
 ghost use Rattle.plans.specs.Judging.{plan-refusal};
-ghost use Rattle.plans.specs.Basic.{basic-words?, orders-of};
 ghost use Rattle.plans.specs.Accepted.{AcceptedPlan, BasicPlan};
-ghost use lib.ListN.{length, take};
-ghost use Rattle.stations.specs.File.{plan-held, file-refusal, station-outcome, station-report, StationOutcome};
-ghost use Rattle.areas.specs.Reached.{capacity, even?, reached-part};
-ghost use Rattle.rewritings.specs.Runs.{run-of};
-ghost use Rattle.unfolding.specs.Unfolding.{unfold-refusal, unfold-outcome, UnfoldOutcome};
-ghost use Rattle.checking.specs.Checking.{replay-of, check-refusal, check-outcome, CheckOutcome};
-ghost use Rattle.demands.specs.Claims.{own-rewriting, UnfoldClaims, CheckClaims, StepClaims};
-ghost use Rattle.aberulwy.specs.Rewriting.{unfold-report, check-report, own-report, reported-run, reported-replay, reported-own, both-outcome, BothOutcome, OwnAccepted};
+ghost use Rattle.stations.specs.File.{station-outcome, station-report, station-reported, StationOutcome};
+ghost use Rattle.areas.specs.Reached.{even?, reached-part};
+ghost use Rattle.unfolding.specs.Unfolding.{unfold-outcome, UnfoldOutcome};
+ghost use Rattle.checking.specs.Checking.{check-outcome, CheckOutcome};
+ghost use Rattle.demands.specs.Claims.{own-rewriting, unfold-given, check-given, UnfoldClaims, CheckClaims, StepClaims};
 ghost use Rattle.aberulwy.specs.declared.BasicAnswer.the-variants.{Yes};
-ghost use Rattle.aberulwy.specs.Judging.{basic-answer, basic-report, bit, orders-answer, orders-report};
+ghost use Rattle.aberulwy.specs.Judging.{basic-answer, basic-report, basic-reported, orders-answer, orders-report, orders-reported};
+ghost use Rattle.aberulwy.specs.Rewriting.{unfold-report, unfold-reported, check-report, check-reported, own-report, own-reported};
+ghost use Rattle.aberulwy.specs.Rewriting.{both-outcome, BothOutcome, OwnAccepted};
 
 // Whether a plan is basic, or why it was not judged.
 pub enum BasicAnswer {
@@ -64,7 +62,7 @@ pub fn judge_plan(tables: &[u8], plan: &[u8]) -> Judgement
 // Whether a plan is basic; refusals 1 to 8, 11 to 14 first.
 pub fn is_basic(tables: &[u8], plan: &[u8]) -> BasicAnswer
     ensures whole { λ r. ⌜ r ≡ basic-answer (now (tables .entry)) (now (plan .entry)) ⌝ }
-    ensures numbers { λ r. ⌜ basic-report r ≡ reported (plan-refusal (now (tables .entry)) (now (plan .entry))) (bit (basic-words? (actions (now (tables .entry))) (now (plan .entry))) ∷ []) ⌝ }
+    ensures numbers { λ r. ⌜ basic-report r ≡ basic-reported (now (tables .entry)) (now (plan .entry)) ⌝ }
     ensures accepts { λ r. ⌜ ((r ≡ Yes) ↔ BasicPlan (now (tables .entry)) (now (plan .entry))) ⌝ }
 {
     match plans::judge_plan(tables, plan) {
@@ -84,7 +82,7 @@ pub fn is_basic(tables: &[u8], plan: &[u8]) -> BasicAnswer
 // How many orders a basic plan allows, 0 for a plan that is not basic; refusals 1 to 8, 11 to 14 first.
 pub fn count_orders(tables: &[u8], plan: &[u8]) -> OrdersAnswer
     ensures whole { λ r. ⌜ r ≡ orders-answer (now (tables .entry)) (now (plan .entry)) ⌝ }
-    ensures numbers { λ r. ⌜ orders-report r ≡ reported (plan-refusal (now (tables .entry)) (now (plan .entry))) (orders-of (actions (now (tables .entry))) (now (plan .entry)) ∷ []) ⌝ }
+    ensures numbers { λ r. ⌜ orders-report r ≡ orders-reported (now (tables .entry)) (now (plan .entry)) ⌝ }
 {
     match plans::judge_plan(tables, plan) {
         Judgement::Refused(refusal) => {
@@ -106,9 +104,13 @@ pub fn unfold(
     a: &mut [u8],
     b: &mut [u8],
 ) -> Unfolded
-    ensures whole { λ r. ⌜ _≡_ {A = UnfoldOutcome} (record { answer = r; list = now (list .exit); a = now (a .exit); b = now (b .exit) }) (unfold-outcome (now (tables .entry)) (now (plan .entry)) allowance (now (list .entry)) (now (a .entry)) (now (b .entry))) ⌝ }
-    ensures numbers { λ r. ⌜ unfold-report r ≡ reported-run (unfold-refusal (now (tables .entry)) (now (plan .entry)) (capacity (now (a .entry)) (now (b .entry)))) (run-of (now (tables .entry)) (now (plan .entry)) allowance (length (now (list .entry))) (capacity (now (a .entry)) (now (b .entry)))) ⌝ }
-    ensures claims { λ r. ⌜ UnfoldClaims (record { tables = now (tables .entry); plan = now (plan .entry); allowance = allowance; list = now (list .entry); a = now (a .entry); b = now (b .entry) }) (record { answer = r; list = now (list .exit); a = now (a .exit); b = now (b .exit) }) ⌝ }
+    ensures whole { λ r. ⌜ _≡_ {A = UnfoldOutcome} (record { answer = r; list = now (list .exit); a = now (a .exit); b = now (b .exit) })
+        (unfold-outcome (now (tables .entry)) (now (plan .entry)) allowance (now (list .entry)) (now (a .entry)) (now (b .entry))) ⌝ }
+    ensures numbers { λ r. ⌜ unfold-report r
+        ≡ unfold-reported (now (tables .entry)) (now (plan .entry)) allowance (now (list .entry)) (now (a .entry)) (now (b .entry)) ⌝ }
+    ensures claims { λ r. ⌜ UnfoldClaims
+        (unfold-given (now (tables .entry)) (now (plan .entry)) allowance (now (list .entry)) (now (a .entry)) (now (b .entry)))
+        (record { answer = r; list = now (list .exit); a = now (a .exit); b = now (b .exit) }) ⌝ }
 {
     unfolding::unfold(tables, plan, allowance, list, a, b)
 }
@@ -123,10 +125,17 @@ pub fn check_rewriting(
     a: &mut [u8],
     b: &mut [u8],
 ) -> Checked
-    ensures whole { λ r. ⌜ _≡_ {A = CheckOutcome} (record { answer = r; a = now (a .exit); b = now (b .exit) }) (check-outcome (now (tables .entry)) (now (start .entry)) (now (claimed .entry)) (now (rewriting .entry)) (now (a .entry)) (now (b .entry))) ⌝ }
-    ensures numbers { λ r. ⌜ check-report r ≡ reported-replay (check-refusal (now (tables .entry)) (now (start .entry)) (now (claimed .entry)) (now (rewriting .entry)) (capacity (now (a .entry)) (now (b .entry)))) (replay-of (now (tables .entry)) (now (start .entry)) (now (claimed .entry)) (now (rewriting .entry)) (capacity (now (a .entry)) (now (b .entry)))) ⌝ }
+    ensures whole { λ r. ⌜ _≡_ {A = CheckOutcome} (record { answer = r; a = now (a .exit); b = now (b .exit) })
+        (check-outcome (now (tables .entry)) (now (start .entry)) (now (claimed .entry)) (now (rewriting .entry))
+        (now (a .entry)) (now (b .entry))) ⌝ }
+    ensures numbers { λ r. ⌜ check-report r
+        ≡ check-reported (now (tables .entry)) (now (start .entry)) (now (claimed .entry)) (now (rewriting .entry))
+        (now (a .entry)) (now (b .entry)) ⌝ }
     ensures claims { λ r. ⌜ CheckClaims (now (tables .entry)) (now (start .entry)) (now (claimed .entry)) r ⌝ }
-    ensures single { λ r. ⌜ StepClaims (record { tables = now (tables .entry); start = now (start .entry); claimed = now (claimed .entry); rewriting = now (rewriting .entry); a = now (a .entry); b = now (b .entry) }) (record { answer = r; a = now (a .exit); b = now (b .exit) }) ⌝ }
+    ensures single { λ r. ⌜ StepClaims
+        (check-given (now (tables .entry)) (now (start .entry)) (now (claimed .entry)) (now (rewriting .entry))
+        (now (a .entry)) (now (b .entry)))
+        (record { answer = r; a = now (a .exit); b = now (b .exit) }) ⌝ }
 {
     checking::check_rewriting(tables, start, claimed, rewriting, a, b)
 }
@@ -156,8 +165,9 @@ pub fn reached<'a>(a: &'a [u8], b: &'a [u8], steps: usize, size: usize) -> &'a [
 // Reads a station file into a tables area and a plan area: the plan's length, or refusals 51 to 55, then 1 to 14, which leave the areas as they
 // are.
 pub fn read_station(file: &[u8], tables: &mut [u8], plan: &mut [u8]) -> StationRead
-    ensures whole { λ r. ⌜ _≡_ {A = StationOutcome} (record { answer = r; tables = now (tables .exit); plan = now (plan .exit) }) (station-outcome (now (file .entry)) (now (tables .entry)) (now (plan .entry))) ⌝ }
-    ensures numbers { λ r. ⌜ station-report r ≡ reported (file-refusal (now (file .entry)) (length (now (tables .entry))) (length (now (plan .entry)))) (length (plan-held (now (file .entry))) ∷ []) ⌝ }
+    ensures whole { λ r. ⌜ _≡_ {A = StationOutcome} (record { answer = r; tables = now (tables .exit); plan = now (plan .exit) })
+        (station-outcome (now (file .entry)) (now (tables .entry)) (now (plan .entry))) ⌝ }
+    ensures numbers { λ r. ⌜ station-report r ≡ station-reported (now (file .entry)) (now (tables .entry)) (now (plan .entry)) ⌝ }
 {
     stations::read_station(file, tables, plan)
 }
@@ -197,7 +207,9 @@ fn check_own<'a>(
     c: &mut [u8],
     d: &mut [u8],
 ) -> Checked
-    ensures { λ r. ⌜ _≡_ {A = CheckOutcome} (record { answer = r; a = now (c .exit); b = now (d .exit) }) (check-outcome (now (tables .entry)) (now (plan .entry)) (reached-part (even? steps) size (now (a .entry)) (now (b .entry))) (own-rewriting steps (now (list .entry))) (now (c .entry)) (now (d .entry))) ⌝ }
+    ensures { λ r. ⌜ _≡_ {A = CheckOutcome} (record { answer = r; a = now (c .exit); b = now (d .exit) })
+        (check-outcome (now (tables .entry)) (now (plan .entry)) (reached-part (even? steps) size (now (a .entry)) (now (b .entry)))
+        (own-rewriting steps (now (list .entry))) (now (c .entry)) (now (d .entry))) ⌝ }
 {
     let claimed = reached(a, b, steps, size);
     let rewriting = own_records(list, steps);
@@ -216,10 +228,23 @@ pub fn unfold_checked(
     c: &mut [u8],
     d: &mut [u8],
 ) -> BothAnswers
-    ensures whole { λ r. ⌜ _≡_ {A = BothOutcome} (record { unfolded = record { answer = r .unfolded; list = now (list .exit); a = now (a .exit); b = now (b .exit) }; own = record { answer = r .own; a = now (c .exit); b = now (d .exit) } }) (both-outcome (now (tables .entry)) (now (plan .entry)) allowance (now (list .entry)) (now (a .entry)) (now (b .entry)) (now (c .entry)) (now (d .entry))) ⌝ }
-    ensures numbers { λ r. ⌜ (unfold-report (r .unfolded) ≡ reported-run (unfold-refusal (now (tables .entry)) (now (plan .entry)) (capacity (now (a .entry)) (now (b .entry)))) (run-of (now (tables .entry)) (now (plan .entry)) allowance (length (now (list .entry))) (capacity (now (a .entry)) (now (b .entry))))) × (own-report (r .own) ≡ reported-own (unfold-refusal (now (tables .entry)) (now (plan .entry)) (capacity (now (a .entry)) (now (b .entry)))) (now (tables .entry)) (now (plan .entry)) (run-of (now (tables .entry)) (now (plan .entry)) allowance (length (now (list .entry))) (capacity (now (a .entry)) (now (b .entry)))) (capacity (now (c .entry)) (now (d .entry)))) ⌝ }
-    ensures claims { λ r. ⌜ UnfoldClaims (record { tables = now (tables .entry); plan = now (plan .entry); allowance = allowance; list = now (list .entry); a = now (a .entry); b = now (b .entry) }) (record { answer = r .unfolded; list = now (list .exit); a = now (a .exit); b = now (b .exit) }) ⌝ }
-    ensures accepted { λ r. ⌜ OwnAccepted (r .unfolded) (r .own) (now (a .entry)) (now (b .entry)) (now (c .entry)) (now (d .entry)) ⌝ }
+    ensures whole { λ r. ⌜ _≡_ {A = BothOutcome}
+        (record {
+          unfolded = record { answer = r .unfolded; list = now (list .exit); a = now (a .exit); b = now (b .exit) };
+          own = record { answer = r .own; a = now (c .exit); b = now (d .exit) };
+        })
+        (both-outcome (now (tables .entry)) (now (plan .entry)) allowance (now (list .entry)) (now (a .entry)) (now (b .entry))
+        (now (c .entry)) (now (d .entry))) ⌝ }
+    ensures numbers { λ r. ⌜ (unfold-report (r .unfolded)
+        ≡ unfold-reported (now (tables .entry)) (now (plan .entry)) allowance (now (list .entry)) (now (a .entry)) (now (b .entry)))
+        × (own-report (r .own)
+        ≡ own-reported (now (tables .entry)) (now (plan .entry)) allowance (now (list .entry)) (now (a .entry)) (now (b .entry))
+        (now (c .entry)) (now (d .entry))) ⌝ }
+    ensures claims { λ r. ⌜ UnfoldClaims
+        (unfold-given (now (tables .entry)) (now (plan .entry)) allowance (now (list .entry)) (now (a .entry)) (now (b .entry)))
+        (record { answer = r .unfolded; list = now (list .exit); a = now (a .exit); b = now (b .exit) }) ⌝ }
+    ensures accepted { λ r. ⌜ OwnAccepted (r .unfolded) (r .own)
+        (now (a .entry)) (now (b .entry)) (now (c .entry)) (now (d .entry)) ⌝ }
 {
     let unfolded = unfolding::unfold(tables, plan, allowance, &mut *list, &mut *a, &mut *b);
     match unfolded {

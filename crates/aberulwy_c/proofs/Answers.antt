@@ -2,8 +2,8 @@
 use Prim.Native.Nat.{ℕ, _+_, _≤_, _<_}
 use mathlib.Core.Path.{_≡_, refl, sym, _∙_, ap, subst}
 use mathlib.Core.Bool.{Bool, true, false}
-use mathlib.Core.List.{List}
-use mathlib.Core.Option.{Option}
+use mathlib.Core.List.{List, [], _∷_}
+use mathlib.Core.Option.{Option, none, some}
 use native.Mathlib.Omega.{arith}
 use lib.ListN.{length, getD, take}
 use lib.Dec.{leb}
@@ -12,19 +12,17 @@ use Rattle.areas.specs.Area.{overwrite, padded}
 use Rattle.areas.proofs.Area.{take-overwrite}
 use Rattle.refusals.specs.declared.Refusal.{Refusal}
 use Rattle.refusals.specs.Refusal.{Report, printed, refused-report}
-use Rattle.unfolding.specs.Unfolding.{UnfoldOutcome}
-use Rattle.checking.specs.Checking.{CheckOutcome}
-use Rattle.stations.specs.File.{StationOutcome}
 use Rattle.checking.specs.declared.Checked.{Checked}
 use Rattle.aberulwy.specs.declared.OwnCheck.{OwnCheck}
 use Rattle.aberulwy.specs.declared.OwnCheck.the-variants.{Checked as Checked-as, NotChecked}
-use Rattle.aberulwy.specs.Rewriting.{check-report, own-report, BothOutcome}
+use Rattle.aberulwy.specs.Rewriting.{unfold-report, check-report, own-report, BothOutcome}
 use Rattle.listing.specs.declared.Listed.{Listed}
 use Rattle.listing.specs.declared.Listed.the-variants.{Whole, Short}
 use Rattle.listing.specs.Listing.{listing}
 use Rattle.listing.specs.Writing.{ListOutcome, list-outcome}
 use Rattle.listing.specs.Writing as listing-of
-use Rattle.aberulwy_c.specs.Answers.{Answered, MaybeAnswered, HandedOver, if-fits, handed-over}
+use Rattle.aberulwy_c.specs.Answers.{Returned, returned, out-numbers, own-numbers, of-both, HandedOver, if-fits, handed-over}
+use Rattle.aberulwy_c.specs.Handing.{Answered, MaybeAnswered}
 
 -- a report that is known answers for every report equal to it
 pub answered : {Q R : Report} {n p v w : ℕ} → Q ≡ R → Answered Q n p v w → Answered R n p v w
@@ -49,9 +47,6 @@ pub own-not-made : {o : OwnCheck} → o ≡ NotChecked → MaybeAnswered (own-re
 own-not-made e =
     subst (λ (z : Option Report). MaybeAnswered z 0 0 0 0 0) (sym (ap own-report e))
     (record { made = refl; answered = record { number = refl; place = refl; first = refl; second = refl } })
-
-pub maybe-answered : {Q R : Option Report} {m n p v w : ℕ} → Q ≡ R → MaybeAnswered Q m n p v w → MaybeAnswered R m n p v w
-maybe-answered {m} {n} {p} {v} {w} e h = subst (λ (x : Option Report). MaybeAnswered x m n p v w) e h
 
 -- bytes handed over: the area is too short, or they are copied and zeros put behind them
 pub too-short : (bytes out : List ℕ) → length out < length bytes → _≡_ {A = HandedOver} (record { number = 1; size = 0; out = out }) (handed-over bytes out)
@@ -92,22 +87,41 @@ listed f out {x} {out′} v q e =
     go true = refl
     go false = refl
 
--- the lent bytes of equal outcomes
-pub unfold-areas : {o q : UnfoldOutcome} → o ≡ q → (o .list ≡ q .list) × (o .a ≡ q .a) × (o .b ≡ q .b)
-unfold-areas e = (ap (λ (x : UnfoldOutcome). x .list) e, ap (λ (x : UnfoldOutcome). x .a) e, ap (λ (x : UnfoldOutcome). x .b) e)
+-- the values of a report as out numbers
+one-value : (v : List ℕ) → getD v 0 0 ∷ [] ≡ out-numbers 1 v
+unfolding out-numbers
+one-value [] = refl
+one-value (x ∷ v) = refl
 
-pub check-areas : {o q : CheckOutcome} → o ≡ q → (o .a ≡ q .a) × (o .b ≡ q .b)
-check-areas e = (ap (λ (x : CheckOutcome). x .a) e, ap (λ (x : CheckOutcome). x .b) e)
+two-values : (v : List ℕ) → getD v 0 0 ∷ getD v 1 0 ∷ [] ≡ out-numbers 2 v
+unfolding out-numbers
+two-values [] = refl
+two-values (x ∷ []) = refl
+two-values (x ∷ y ∷ v) = refl
 
-pub station-areas : {o q : StationOutcome} → o ≡ q → (o .tables ≡ q .tables) × (o .plan ≡ q .plan)
-station-areas e = (ap (λ (x : StationOutcome). x .tables) e, ap (λ (x : StationOutcome). x .plan) e)
+-- what is returned, by the numbers that answer for a report: with no value, with one and with two
+pub returned-0 : {R : Report} {n p v w : ℕ} → Answered R n p v w → _≡_ {A = Returned} (record { number = n; place = p; values = []; areas = [] }) (returned 0 R [])
+unfolding out-numbers
+returned-0 a = rw (a .number, a .place) refl
 
-pub both-areas : {o q : BothOutcome} → o ≡ q
-    → (o .unfolded .list ≡ q .unfolded .list) × (o .unfolded .a ≡ q .unfolded .a) × (o .unfolded .b ≡ q .unfolded .b) × (o .own .a ≡ q .own .a) × (o .own .b ≡ q .own .b)
-both-areas e = (
-  ap (λ (x : BothOutcome). x .unfolded .list) e,
-  ap (λ (x : BothOutcome). x .unfolded .a) e,
-  ap (λ (x : BothOutcome). x .unfolded .b) e,
-  ap (λ (x : BothOutcome). x .own .a) e,
-  ap (λ (x : BothOutcome). x .own .b) e,
-)
+pub returned-1 : {R : Report} {n p v w : ℕ} (areas : List (List ℕ)) → Answered R n p v w
+    → _≡_ {A = Returned} (record { number = n; place = p; values = v ∷ []; areas = areas }) (returned 1 R areas)
+returned-1 {R} areas a = rw (a .number, a .place, a .first, one-value (R .values)) refl
+
+pub returned-2 : {R : Report} {n p v w : ℕ} (areas : List (List ℕ)) → Answered R n p v w
+    → _≡_ {A = Returned} (record { number = n; place = p; values = v ∷ w ∷ []; areas = areas }) (returned 2 R areas)
+returned-2 {R} areas a = rw (a .number, a .place, a .first, a .second, two-values (R .values)) refl
+
+-- the numbers of a check that may not have been made
+own-set : (R : Option Report) {m n p v w : ℕ} → MaybeAnswered R m n p v w → m ∷ n ∷ v ∷ w ∷ p ∷ [] ≡ own-numbers R
+own-set none a = rw (a .made, a .answered .number, a .answered .place, a .answered .first, a .answered .second) refl
+own-set (some R) a =
+    rw (a .made, a .answered .number, a .answered .place, a .answered .first, a .answered .second, ← two-values (R .values)) refl
+
+-- what is returned of an unfolding with that check
+pub returned-both : {o q : BothOutcome} {n p s z m k i x y : ℕ} → o ≡ q
+    → Answered (unfold-report (o .unfolded .answer)) n p s z → MaybeAnswered (own-report (o .own .answer)) m k i x y
+    → _≡_ {A = Returned} (record { number = n; place = p; values = s ∷ z ∷ m ∷ k ∷ x ∷ y ∷ i ∷ []; areas = o .unfolded .list ∷ o .unfolded .a ∷ o .unfolded .b ∷ o .own .a ∷ o .own .b ∷ [] })
+    (of-both q)
+returned-both {o} {q} {n} {p} {s} {z} e h j =
+    rw (← e, ← own-set (own-report (o .own .answer)) j, ← two-values (unfold-report (o .unfolded .answer) .values), h .number, h .place, h .first, h .second) refl

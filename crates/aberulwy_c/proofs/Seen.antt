@@ -29,14 +29,16 @@ use Rattle.checking.specs.declared.Checked.the-variants.{Accepted, TurnedBack, 
 use Rattle.checking.specs.Checking.{Replay, replay-of, check-refusal, check-outcome, CheckOutcome}
 use Rattle.checking.specs.Checking as checking-of
 use Rattle.rewritings.specs.Records.{moves-of}
-use Rattle.demands.specs.Claims.{UnfoldGiven, CheckGiven, Stops, allowance-spent, list-full, next-too-long, own-rewriting, UnfoldClaims, CheckClaims, StepClaims}
+use Rattle.demands.specs.Claims.{unfold-given, check-given, Stops, allowance-spent, list-full, next-too-long, own-rewriting, UnfoldClaims, CheckClaims, StepClaims}
 use Rattle.aberulwy.specs.declared.OwnCheck.{OwnCheck}
 use Rattle.aberulwy.specs.declared.OwnCheck.the-variants.{Checked as Checked-as, NotChecked}
-use Rattle.aberulwy.specs.Judging.{bit}
+use Rattle.aberulwy.specs.Judging.{bit, basic-reported}
 use Rattle.aberulwy.specs.Rewriting.{unfold-report, check-report, own-report, check-own, both-outcome, BothOutcome, OwnAccepted}
-use Rattle.aberulwy_c.specs.Answers.{Answered, MaybeAnswered}
+use Rattle.aberulwy_c.specs.Answers.{Returned, returned}
+use Rattle.aberulwy_c.specs.Handing.{Answered, MaybeAnswered}
 use Rattle.aberulwy_c.specs.Seen.{UnfoldedAs, CheckedAs, OwnAs, made, not-made, UnfoldSeen, CheckSeen, StepSeen, BothNumbers, OwnSeen}
 use Rattle.aberulwy_c.specs.Seen as seen-as
+use Rattle.aberulwy_c.proofs.Answers.{returned-0, returned-1}
 use Rattle.aberulwy_c.proofs.Numbers.{low?, low-range, low-tables, low-plan, low-unfold, low-check, turned, turned-range, ends?, replay-ends}
 
 untrue : {A : Type 0} → false ≡ true → A
@@ -54,17 +56,18 @@ zero-accepts (some r) v P l h a = (
 )
 
 pub tables-seen : (t : Tables) {n p x y : ℕ} → Answered (reported (table-refusal t) []) n p x y
-    → Answered (reported (table-refusal t) []) n p x y × ((n ≡ 0) ↔ Lawful t)
-tables-seen t a = (a, zero-accepts (table-refusal t) [] (Lawful t) (low-tables t) (accepted-iff-lawful t) a)
+    → _≡_ {A = Returned} (record { number = n; place = p; values = []; areas = [] }) (returned 0 (reported (table-refusal t) []) []) × ((n ≡ 0) ↔ Lawful t)
+tables-seen t a = (returned-0 a, zero-accepts (table-refusal t) [] (Lawful t) (low-tables t) (accepted-iff-lawful t) a)
 
 pub plan-seen : (t : Tables) (ws : List ℕ) {n p x y : ℕ} → Answered (reported (plan-refusal t ws) []) n p x y
-    → Answered (reported (plan-refusal t ws) []) n p x y × ((n ≡ 0) ↔ AcceptedPlan t ws)
-plan-seen t ws a = (a, zero-accepts (plan-refusal t ws) [] (AcceptedPlan t ws) (low-plan t ws) (accepted-plan t ws) a)
+    → _≡_ {A = Returned} (record { number = n; place = p; values = []; areas = [] }) (returned 0 (reported (plan-refusal t ws) []) [])
+    × ((n ≡ 0) ↔ AcceptedPlan t ws)
+plan-seen t ws a = (returned-0 a, zero-accepts (plan-refusal t ws) [] (AcceptedPlan t ws) (low-plan t ws) (accepted-plan t ws) a)
 
 -- 1 is set exactly where the plan is basic
-pub basic-seen : (t : Tables) (ws : List ℕ) {n p x y : ℕ} → Answered (reported (plan-refusal t ws) (bit (basic-words? (actions t) ws) ∷ [])) n p x y
-    → Answered (reported (plan-refusal t ws) (bit (basic-words? (actions t) ws) ∷ [])) n p x y × ((x ≡ 1) ↔ BasicPlan t ws)
-basic-seen t ws {x} a = (a, go (plan-refusal t ws) refl (basic-words? (actions t) ws) refl (a .first))
+pub basic-seen : (t : Tables) (ws : List ℕ) {n p x y : ℕ} → Answered (basic-reported t ws) n p x y
+    → _≡_ {A = Returned} (record { number = n; place = p; values = x ∷ []; areas = [] }) (returned 1 (basic-reported t ws) []) × ((x ≡ 1) ↔ BasicPlan t ws)
+basic-seen t ws {x} a = (returned-1 [] a, go (plan-refusal t ws) refl (basic-words? (actions t) ws) refl (a .first))
   where
     go : (o : Option Refusal) → plan-refusal t ws ≡ o → (b : Bool) → basic-words? (actions t) ws ≡ b → x ≡ getD (reported o (bit b ∷ []) .values) 0 0
         → (x ≡ 1) ↔ BasicPlan t ws
@@ -94,9 +97,6 @@ unfolded-as (Not-unfolded f) r a =
     rw (a .number, a .place, a .first, a .second) (seen-as.UnfoldedAs.refused f (i .0) (i .1))
 
 module _ (t : Tables) (plan : List ℕ) (m : ℕ) (list a b : List ℕ) where
-  abbrev unfold-given : UnfoldGiven
-  unfold-given = record { tables = t; plan = plan; allowance = m; list = list; a = a; b = b }
-
   run-not-refused : (c : Bool) (r : Run) (f : Refusal)
       → cond c (Finished (r .steps) (length (r .plan))) (Stopped (r .number) (r .steps) (length (r .plan))) ≡ Not-unfolded f → ⊥
   run-not-refused true r f e = let z : _≡_ {A = ℕ} 0 1 = cc in omega arith
@@ -110,18 +110,18 @@ module _ (t : Tables) (plan : List ℕ) (m : ℕ) (list a b : List ℕ) where
       go none r l e = absurd (run-not-refused (eqb (r .number) 0) r f e)
       go (some g) r l e = let q : g ≡ f = cc in rw (← q) (low-range (g .number) l)
 
-  unfold-range : (o : UnfoldOutcome) → o ≡ unfold-outcome t plan m list a b → UnfoldClaims unfold-given o → UnfoldRange (o .answer)
+  unfold-range : (o : UnfoldOutcome) → o ≡ unfold-outcome t plan m list a b → UnfoldClaims (unfold-given t plan m list a b) o → UnfoldRange (o .answer)
   unfold-range o e k = (
     λ n s z q. ending-range (k .stopped-rightly n s z q),
     λ f q. refused-low f (sym (ap (λ (x : UnfoldOutcome). x .answer) e) ∙ q),
   )
 
-  pub unfold-as : (o : UnfoldOutcome) {n p v w : ℕ} → o ≡ unfold-outcome t plan m list a b → UnfoldClaims unfold-given o → Answered (unfold-report (o .answer)) n p v w
+  pub unfold-as : (o : UnfoldOutcome) {n p v w : ℕ} → o ≡ unfold-outcome t plan m list a b → UnfoldClaims (unfold-given t plan m list a b) o → Answered (unfold-report (o .answer)) n p v w
       → UnfoldedAs (o .answer) n p v w
   unfold-as o e k h = unfolded-as (o .answer) (unfold-range o e k) h
 
   pub unfold-seen : {x : Unfolded} {l y z : List ℕ} {n p v w : ℕ} → record { answer = x; list = l; a = y; b = z } ≡ unfold-outcome t plan m list a b
-      → UnfoldClaims unfold-given (record { answer = x; list = l; a = y; b = z }) → Answered (unfold-report x) n p v w → UnfoldSeen unfold-given l y z n p v w
+      → UnfoldClaims (unfold-given t plan m list a b) (record { answer = x; list = l; a = y; b = z }) → Answered (unfold-report x) n p v w → UnfoldSeen (unfold-given t plan m list a b) l y z n p v w
   unfold-seen {x} {l} {y} {z} e k h =
       record { answer = x; seen = unfold-as (record { answer = x; list = l; a = y; b = z }) e k h; claims = k }
 
@@ -142,9 +142,6 @@ checked-as (Not-checked f) r a =
     rw (a .number, a .place, a .first, a .second) (seen-as.CheckedAs.refused f (i .0) (i .1))
 
 module _ (t : Tables) (start claimed rewriting a b : List ℕ) where
-  abbrev check-given : CheckGiven
-  check-given = record { tables = t; start = start; claimed = claimed; rewriting = rewriting; a = a; b = b }
-
   replay-range : (c : Bool) (r : Replay) → eqb (r .number) 0 ≡ c → ends? (r .number) ≡ true
       → CheckRange (cond c (Accepted (r .steps) (length (r .plan))) (TurnedBack (r .number) (r .steps) (length (r .plan))))
   replay-range true r q l = (
@@ -174,8 +171,8 @@ module _ (t : Tables) (start claimed rewriting a b : List ℕ) where
   check-as o e h = checked-as (o .answer) (subst (λ (x : CheckOutcome). CheckRange (x .answer)) (sym e) check-range) h
 
   pub check-seen : {x : Checked} {y z : List ℕ} {n p v w : ℕ} → record { answer = x; a = y; b = z } ≡ check-outcome t start claimed rewriting a b
-      → CheckClaims t start claimed x × StepClaims check-given (record { answer = x; a = y; b = z }) → Answered (check-report x) n p v w
-      → CheckSeen check-given n p v w × StepSeen check-given y z n p v w
+      → CheckClaims t start claimed x × StepClaims (check-given t start claimed rewriting a b) (record { answer = x; a = y; b = z }) → Answered (check-report x) n p v w
+      → CheckSeen (check-given t start claimed rewriting a b) n p v w × StepSeen (check-given t start claimed rewriting a b) y z n p v w
   check-seen {x} {y} {z} e k h =
       let s = check-as (record { answer = x; a = y; b = z }) e h in
       (record { answer = x; seen = s; claims = k .0 }, record { answer = x; seen = s; claims = k .1 })

@@ -1,39 +1,78 @@
--- How the calls for C and Rust hand over a report: a number answered, and out numbers. (01, "Turned back by what was handed in".)
-use Prim.Native.Nat.{ℕ}
+-- What the calls for C and Rust answer and leave: a number, out numbers, and lent areas. (01, "Turned back by what was handed in".)
+use Prim.Native.Nat.{ℕ, zero, suc}
 use mathlib.Core.Path.{_≡_}
 use mathlib.Core.Bool.{Bool, true, false}
-use mathlib.Core.List.{List, []}
+use mathlib.Core.List.{List, [], _∷_, _++_}
 use mathlib.Core.Option.{Option, none, some}
 use lib.ListN.{length, getD}
 use lib.Dec.{leb}
 use Rattle.areas.specs.Area.{padded}
 use Rattle.refusals.specs.Refusal.{Report}
+use Rattle.tables.specs.Tables.{Tables}
+use Rattle.unfolding.specs.Unfolding.{unfold-outcome, UnfoldOutcome}
+use Rattle.checking.specs.Checking.{check-outcome, CheckOutcome}
+use Rattle.stations.specs.File.{station-outcome, station-report, StationOutcome}
+use Rattle.aberulwy.specs.Rewriting.{unfold-report, check-report, own-report, both-outcome, BothOutcome}
 
--- the number n answered and the out numbers p, v and w are those of a report
-pub record Answered (R : Report) (n p v w : ℕ) : Type 0 where
-  -- "the number", 0 where nothing is refused
-  pub number : n ≡ R .number
-  -- the place as it is printed, 0 where none is named
-  pub place : p ≡ R .place
-  -- the first value of the report, 0 where it has none
-  pub first : v ≡ getD (R .values) 0 0
-  -- the second value of the report, 0 where it has none
-  pub second : w ≡ getD (R .values) 1 0
+-- everything that a call answers and leaves
+pub record Returned : Type 0 where
+  -- the number answered, 0 where nothing is refused
+  pub number : ℕ
+  -- what is set as the place
+  pub place : ℕ
+  -- the other out numbers, in the order of the parameters
+  pub values : List ℕ
+  -- the lent areas, in the order of the parameters
+  pub areas : List (List ℕ)
 
--- whether there is a report, 1 or 0
-abbrev pub there : Option Report → ℕ
-there none = 0
-there (some R) = 1
+-- the first k values of a report, 0 for each that it does not have: a refusal has none
+unfoldable pub out-numbers : ℕ → List ℕ → List ℕ
+out-numbers zero v = []
+out-numbers (suc k) [] = 0 ∷ out-numbers k []
+out-numbers (suc k) (x ∷ v) = x ∷ out-numbers k v
 
--- the report, and one of zeros where there is none
-abbrev pub or-zeros : Option Report → Report
-or-zeros none = record { number = 0; place = 0; values = [] }
-or-zeros (some R) = R
+-- a report of at most k values, and the areas as they are left
+abbrev pub returned : ℕ → Report → List (List ℕ) → Returned
+returned k R areas = record { number = R .number; place = R .place; values = out-numbers k (R .values); areas = areas }
 
--- the out numbers m, n, p, v and w are those of a report that may not be there: m says whether it is
-pub record MaybeAnswered (R : Option Report) (m n p v w : ℕ) : Type 0 where
-  pub made : m ≡ there R
-  pub answered : Answered (or-zeros R) n p v w
+-- an unfolding: steps and size; list, a and b
+abbrev pub of-unfold : UnfoldOutcome → Returned
+of-unfold o = returned 2 (unfold-report (o .answer)) (o .list ∷ o .a ∷ o .b ∷ [])
+
+abbrev pub unfold-returned : Tables → List ℕ → ℕ → List ℕ → List ℕ → List ℕ → Returned
+unfold-returned t plan m list a b = of-unfold (unfold-outcome t plan m list a b)
+
+-- a check: steps and size; a and b
+abbrev pub of-check : CheckOutcome → Returned
+of-check o = returned 2 (check-report (o .answer)) (o .a ∷ o .b ∷ [])
+
+abbrev pub check-returned : Tables → List ℕ → List ℕ → List ℕ → List ℕ → List ℕ → Returned
+check-returned t start claimed rewriting a b = of-check (check-outcome t start claimed rewriting a b)
+
+-- a station file read: the plan's size; the tables and the plan
+abbrev pub of-station : StationOutcome → Returned
+of-station o = returned 1 (station-report (o .answer)) (o .tables ∷ o .plan ∷ [])
+
+abbrev pub station-returned : List ℕ → List ℕ → List ℕ → Returned
+station-returned file tables plan = of-station (station-outcome file tables plan)
+
+-- the check of an unfolding's own rewriting: whether it was made, its number, steps, size and place; zeros where none was made
+abbrev pub own-numbers : Option Report → List ℕ
+own-numbers none = 0 ∷ 0 ∷ 0 ∷ 0 ∷ 0 ∷ []
+own-numbers (some R) = 1 ∷ R .number ∷ (out-numbers 2 (R .values) ++ (R .place ∷ []))
+
+-- an unfolding with that check: the unfolding's number and place, its steps and size, then the check's numbers; list, a, b, c and d
+abbrev pub of-both : BothOutcome → Returned
+of-both o =
+    record {
+      number = unfold-report (o .unfolded .answer) .number;
+      place = unfold-report (o .unfolded .answer) .place;
+      values = out-numbers 2 (unfold-report (o .unfolded .answer) .values) ++ own-numbers (own-report (o .own .answer));
+      areas = o .unfolded .list ∷ o .unfolded .a ∷ o .unfolded .b ∷ o .own .a ∷ o .own .b ∷ [];
+    }
+
+abbrev pub both-returned : Tables → List ℕ → ℕ → List ℕ → List ℕ → List ℕ → List ℕ → List ℕ → Returned
+both-returned t plan m list a b c d = of-both (both-outcome t plan m list a b c d)
 
 -- bytes handed over in an area: the number answered, the length set, and the area afterwards
 pub record HandedOver : Type 0 where

@@ -1,6 +1,6 @@
-// The public calls for C and Rust: numbers and byte slices only. Each answers document 01's number and sets every out number; the two that only
-// hand bytes over, `aberulwy_reached` and `aberulwy_list_station`, answer 0, or 1 where the area is too short. Beside `whole` and `areas`, further
-// clauses say what is claimed of a call by the numbers that it answers and sets and the bytes that it leaves.
+// The public calls for C and Rust: numbers and byte slices only. Each answers a number of docs/NUMBERS.md and sets every out number; the two that
+// only hand bytes over, `aberulwy_reached` and `aberulwy_list_station`, answer 0, or 1 where the area is too short. `whole` says everything that a
+// call answers, sets and leaves; further clauses say what is claimed of it.
 use aberulwy::BasicAnswer;
 use aberulwy::OrdersAnswer;
 use aberulwy::OwnCheck;
@@ -16,24 +16,20 @@ ghost use mathlib.Core.Logic.{_↔_};
 ghost use Prim.Native.Nat.{_≤_};
 ghost use lib.ListN.{length};
 ghost use Rattle.refusals.specs.Refusal.{printed, reported};
-ghost use Rattle.tables.specs.Tables.{actions};
+ghost use Rattle.areas.specs.Reached.{even?, reached-part};
 ghost use Rattle.tables.specs.Judging.{table-refusal};
 ghost use Rattle.tables.specs.Lawful.{Lawful};
 ghost use Rattle.plans.specs.Judging.{plan-refusal};
 ghost use Rattle.plans.specs.Accepted.{AcceptedPlan, BasicPlan};
-ghost use Rattle.plans.specs.Basic.{basic-words?, orders-of};
-ghost use Rattle.stations.specs.File.{plan-held, file-refusal, station-outcome};
-ghost use Rattle.areas.specs.Reached.{capacity, even?};
-ghost use Rattle.rewritings.specs.Runs.{run-of};
-ghost use Rattle.unfolding.specs.Unfolding.{unfold-refusal, unfold-outcome};
-ghost use Rattle.checking.specs.Checking.{replay-of, check-refusal, check-outcome};
-ghost use Rattle.aberulwy.specs.Judging.{bit};
-ghost use Rattle.areas.specs.Reached.{reached-part};
-ghost use Rattle.aberulwy.specs.Rewriting.{unfold-report, check-report, own-report, reported-run, reported-replay, reported-own, both-outcome};
+ghost use Rattle.demands.specs.Claims.{unfold-given, check-given};
+ghost use Rattle.aberulwy.specs.Judging.{basic-reported, orders-reported};
+ghost use Rattle.aberulwy.specs.Rewriting.{unfold-report, check-report, own-report};
 ghost use Rattle.listing.specs.Listing.{listing};
 ghost use Rattle.listing.specs.Writing.{most};
 ghost use Rattle.listing.specs.Endings.{Endings};
-ghost use Rattle.aberulwy_c.specs.Answers.{Answered, MaybeAnswered, HandedOver, handed-over};
+ghost use Rattle.aberulwy_c.specs.Answers.{Returned, returned, HandedOver, handed-over};
+ghost use Rattle.aberulwy_c.specs.Answers.{unfold-returned, check-returned, both-returned, station-returned};
+ghost use Rattle.aberulwy_c.specs.Handing.{Answered, MaybeAnswered};
 ghost use Rattle.aberulwy_c.specs.Seen.{UnfoldSeen, CheckSeen, StepSeen, OwnSeen};
 
 // Answers a refusal's number and sets its place.
@@ -133,7 +129,8 @@ fn hand_own(
 
 // Hands bytes over in an area, with zeros behind, and sets their length; or answers 1 where the area is too short, which then keeps its bytes.
 fn hand_over(bytes: &[u8], out: &mut [u8], size: &mut usize) -> u8
-    ensures { λ r. ⌜ _≡_ {A = HandedOver} (record { number = r; size = now (size .exit); out = now (out .exit) }) (handed-over (now (bytes .entry)) (now (out .entry))) ⌝ }
+    ensures { λ r. ⌜ _≡_ {A = HandedOver} (record { number = r; size = now (size .exit); out = now (out .exit) })
+        (handed-over (now (bytes .entry)) (now (out .entry))) ⌝ }
 {
     *size = 0;
     if out.len() < bytes.len() {
@@ -148,7 +145,8 @@ fn hand_over(bytes: &[u8], out: &mut [u8], size: &mut usize) -> u8
 // Judges tables: 0 where they are accepted, or the number of the refusal and its place.
 #[no_mangle]
 pub extern "C" fn aberulwy_judge_tables(tables: &[u8], place: &mut usize) -> u8
-    ensures whole { λ r. ⌜ Answered (reported (table-refusal (now (tables .entry))) []) r (now (place .exit)) 0 0 ⌝ }
+    ensures whole { λ r. ⌜ _≡_ {A = Returned} (record { number = r; place = now (place .exit); values = []; areas = [] })
+        (returned 0 (reported (table-refusal (now (tables .entry))) []) []) ⌝ }
     ensures accepts { λ r. ⌜ ((r ≡ 0) ↔ Lawful (now (tables .entry))) ⌝ }
 {
     *place = 0;
@@ -161,7 +159,8 @@ pub extern "C" fn aberulwy_judge_tables(tables: &[u8], place: &mut usize) -> u8
 // Judges tables and then a plan: 0 where both are accepted, or the number of the refusal and its place.
 #[no_mangle]
 pub extern "C" fn aberulwy_judge_plan(tables: &[u8], plan: &[u8], place: &mut usize) -> u8
-    ensures whole { λ r. ⌜ Answered (reported (plan-refusal (now (tables .entry)) (now (plan .entry))) []) r (now (place .exit)) 0 0 ⌝ }
+    ensures whole { λ r. ⌜ _≡_ {A = Returned} (record { number = r; place = now (place .exit); values = []; areas = [] })
+        (returned 0 (reported (plan-refusal (now (tables .entry)) (now (plan .entry))) []) []) ⌝ }
     ensures accepts { λ r. ⌜ ((r ≡ 0) ↔ AcceptedPlan (now (tables .entry)) (now (plan .entry))) ⌝ }
 {
     *place = 0;
@@ -179,7 +178,8 @@ pub extern "C" fn aberulwy_is_basic(
     basic: &mut usize,
     place: &mut usize,
 ) -> u8
-    ensures whole { λ r. ⌜ Answered (reported (plan-refusal (now (tables .entry)) (now (plan .entry))) (bit (basic-words? (actions (now (tables .entry))) (now (plan .entry))) ∷ [])) r (now (place .exit)) (now (basic .exit)) 0 ⌝ }
+    ensures whole { λ r. ⌜ _≡_ {A = Returned} (record { number = r; place = now (place .exit); values = now (basic .exit) ∷ []; areas = [] })
+        (returned 1 (basic-reported (now (tables .entry)) (now (plan .entry))) []) ⌝ }
     ensures accepts { λ r. ⌜ ((now (basic .exit) ≡ 1) ↔ BasicPlan (now (tables .entry)) (now (plan .entry))) ⌝ }
 {
     *basic = 0;
@@ -203,7 +203,8 @@ pub extern "C" fn aberulwy_count_orders(
     orders: &mut usize,
     place: &mut usize,
 ) -> u8
-    ensures whole { λ r. ⌜ Answered (reported (plan-refusal (now (tables .entry)) (now (plan .entry))) (orders-of (actions (now (tables .entry))) (now (plan .entry)) ∷ [])) r (now (place .exit)) (now (orders .exit)) 0 ⌝ }
+    ensures whole { λ r. ⌜ _≡_ {A = Returned} (record { number = r; place = now (place .exit); values = now (orders .exit) ∷ []; areas = [] })
+        (returned 1 (orders-reported (now (tables .entry)) (now (plan .entry))) []) ⌝ }
 {
     *orders = 0;
     *place = 0;
@@ -229,9 +230,17 @@ pub extern "C" fn aberulwy_unfold(
     size: &mut usize,
     place: &mut usize,
 ) -> u8
-    ensures whole { λ r. ⌜ Answered (reported-run (unfold-refusal (now (tables .entry)) (now (plan .entry)) (capacity (now (a .entry)) (now (b .entry)))) (run-of (now (tables .entry)) (now (plan .entry)) allowance (length (now (list .entry))) (capacity (now (a .entry)) (now (b .entry))))) r (now (place .exit)) (now (steps .exit)) (now (size .exit)) ⌝ }
-    ensures areas { λ r. ⌜ (now (list .exit) ≡ unfold-outcome (now (tables .entry)) (now (plan .entry)) allowance (now (list .entry)) (now (a .entry)) (now (b .entry)) .list) × (now (a .exit) ≡ unfold-outcome (now (tables .entry)) (now (plan .entry)) allowance (now (list .entry)) (now (a .entry)) (now (b .entry)) .a) × (now (b .exit) ≡ unfold-outcome (now (tables .entry)) (now (plan .entry)) allowance (now (list .entry)) (now (a .entry)) (now (b .entry)) .b) ⌝ }
-    ensures claims { λ r. ⌜ UnfoldSeen (record { tables = now (tables .entry); plan = now (plan .entry); allowance = allowance; list = now (list .entry); a = now (a .entry); b = now (b .entry) }) (now (list .exit)) (now (a .exit)) (now (b .exit)) r (now (place .exit)) (now (steps .exit)) (now (size .exit)) ⌝ }
+    ensures whole { λ r. ⌜ _≡_ {A = Returned}
+        (record {
+          number = r;
+          place = now (place .exit);
+          values = now (steps .exit) ∷ now (size .exit) ∷ [];
+          areas = now (list .exit) ∷ now (a .exit) ∷ now (b .exit) ∷ [];
+        })
+        (unfold-returned (now (tables .entry)) (now (plan .entry)) allowance (now (list .entry)) (now (a .entry)) (now (b .entry))) ⌝ }
+    ensures claims { λ r. ⌜ UnfoldSeen
+        (unfold-given (now (tables .entry)) (now (plan .entry)) allowance (now (list .entry)) (now (a .entry)) (now (b .entry)))
+        (now (list .exit)) (now (a .exit)) (now (b .exit)) r (now (place .exit)) (now (steps .exit)) (now (size .exit)) ⌝ }
 {
     let answer = aberulwy::unfold(tables, plan, allowance, list, a, b);
     hand_unfolded(answer, steps, size, place)
@@ -259,11 +268,31 @@ pub extern "C" fn aberulwy_unfold_checked(
     own_size: &mut usize,
     own_place: &mut usize,
 ) -> u8
-    ensures whole { λ r. ⌜ Answered (reported-run (unfold-refusal (now (tables .entry)) (now (plan .entry)) (capacity (now (a .entry)) (now (b .entry)))) (run-of (now (tables .entry)) (now (plan .entry)) allowance (length (now (list .entry))) (capacity (now (a .entry)) (now (b .entry))))) r (now (place .exit)) (now (steps .exit)) (now (size .exit)) ⌝ }
-    ensures own { λ r. ⌜ MaybeAnswered (reported-own (unfold-refusal (now (tables .entry)) (now (plan .entry)) (capacity (now (a .entry)) (now (b .entry)))) (now (tables .entry)) (now (plan .entry)) (run-of (now (tables .entry)) (now (plan .entry)) allowance (length (now (list .entry))) (capacity (now (a .entry)) (now (b .entry)))) (capacity (now (c .entry)) (now (d .entry)))) (now (checked .exit)) (now («own_number» .exit)) (now («own_place» .exit)) (now («own_steps» .exit)) (now («own_size» .exit)) ⌝ }
-    ensures areas { λ r. ⌜ (now (list .exit) ≡ both-outcome (now (tables .entry)) (now (plan .entry)) allowance (now (list .entry)) (now (a .entry)) (now (b .entry)) (now (c .entry)) (now (d .entry)) .unfolded .list) × (now (a .exit) ≡ both-outcome (now (tables .entry)) (now (plan .entry)) allowance (now (list .entry)) (now (a .entry)) (now (b .entry)) (now (c .entry)) (now (d .entry)) .unfolded .a) × (now (b .exit) ≡ both-outcome (now (tables .entry)) (now (plan .entry)) allowance (now (list .entry)) (now (a .entry)) (now (b .entry)) (now (c .entry)) (now (d .entry)) .unfolded .b) × (now (c .exit) ≡ both-outcome (now (tables .entry)) (now (plan .entry)) allowance (now (list .entry)) (now (a .entry)) (now (b .entry)) (now (c .entry)) (now (d .entry)) .own .a) × (now (d .exit) ≡ both-outcome (now (tables .entry)) (now (plan .entry)) allowance (now (list .entry)) (now (a .entry)) (now (b .entry)) (now (c .entry)) (now (d .entry)) .own .b) ⌝ }
-    ensures claims { λ r. ⌜ UnfoldSeen (record { tables = now (tables .entry); plan = now (plan .entry); allowance = allowance; list = now (list .entry); a = now (a .entry); b = now (b .entry) }) (now (list .exit)) (now (a .exit)) (now (b .exit)) r (now (place .exit)) (now (steps .exit)) (now (size .exit)) ⌝ }
-    ensures accepted { λ r. ⌜ OwnSeen (now (a .entry)) (now (b .entry)) (now (c .entry)) (now (d .entry)) (record { number = r; place = now (place .exit); steps = now (steps .exit); size = now (size .exit); checked = now (checked .exit); own-number = now («own_number» .exit); own-place = now («own_place» .exit); own-steps = now («own_steps» .exit); own-size = now («own_size» .exit) }) ⌝ }
+    ensures whole { λ r. ⌜ _≡_ {A = Returned}
+        (record {
+          number = r;
+          place = now (place .exit);
+          values = now (steps .exit) ∷ now (size .exit) ∷ now (checked .exit) ∷ now («own_number» .exit)
+              ∷ now («own_steps» .exit) ∷ now («own_size» .exit) ∷ now («own_place» .exit) ∷ [];
+          areas = now (list .exit) ∷ now (a .exit) ∷ now (b .exit) ∷ now (c .exit) ∷ now (d .exit) ∷ [];
+        })
+        (both-returned (now (tables .entry)) (now (plan .entry)) allowance (now (list .entry)) (now (a .entry)) (now (b .entry))
+        (now (c .entry)) (now (d .entry))) ⌝ }
+    ensures claims { λ r. ⌜ UnfoldSeen
+        (unfold-given (now (tables .entry)) (now (plan .entry)) allowance (now (list .entry)) (now (a .entry)) (now (b .entry)))
+        (now (list .exit)) (now (a .exit)) (now (b .exit)) r (now (place .exit)) (now (steps .exit)) (now (size .exit)) ⌝ }
+    ensures accepted { λ r. ⌜ OwnSeen (now (a .entry)) (now (b .entry)) (now (c .entry)) (now (d .entry))
+        (record {
+          number = r;
+          place = now (place .exit);
+          steps = now (steps .exit);
+          size = now (size .exit);
+          checked = now (checked .exit);
+          own-number = now («own_number» .exit);
+          own-place = now («own_place» .exit);
+          own-steps = now («own_steps» .exit);
+          own-size = now («own_size» .exit);
+        }) ⌝ }
 {
     let both = aberulwy::unfold_checked(tables, plan, allowance, list, a, b, c, d);
     let unfolded = both.unfolded;
@@ -283,7 +312,8 @@ pub extern "C" fn aberulwy_reached<'a>(
     plan: &mut [u8],
     copied: &mut usize,
 ) -> u8
-    ensures whole { λ r. ⌜ _≡_ {A = HandedOver} (record { number = r; size = now (copied .exit); out = now (plan .exit) }) (handed-over (reached-part (even? steps) size (now (a .entry)) (now (b .entry))) (now (plan .entry))) ⌝ }
+    ensures whole { λ r. ⌜ _≡_ {A = HandedOver} (record { number = r; size = now (copied .exit); out = now (plan .exit) })
+        (handed-over (reached-part (even? steps) size (now (a .entry)) (now (b .entry))) (now (plan .entry))) ⌝ }
 {
     let part = aberulwy::reached(a, b, steps, size);
     hand_over(part, plan, copied)
@@ -303,10 +333,23 @@ pub extern "C" fn aberulwy_check_rewriting(
     size: &mut usize,
     place: &mut usize,
 ) -> u8
-    ensures whole { λ r. ⌜ Answered (reported-replay (check-refusal (now (tables .entry)) (now (start .entry)) (now (claimed .entry)) (now (rewriting .entry)) (capacity (now (a .entry)) (now (b .entry)))) (replay-of (now (tables .entry)) (now (start .entry)) (now (claimed .entry)) (now (rewriting .entry)) (capacity (now (a .entry)) (now (b .entry))))) r (now (place .exit)) (now (steps .exit)) (now (size .exit)) ⌝ }
-    ensures areas { λ r. ⌜ (now (a .exit) ≡ check-outcome (now (tables .entry)) (now (start .entry)) (now (claimed .entry)) (now (rewriting .entry)) (now (a .entry)) (now (b .entry)) .a) × (now (b .exit) ≡ check-outcome (now (tables .entry)) (now (start .entry)) (now (claimed .entry)) (now (rewriting .entry)) (now (a .entry)) (now (b .entry)) .b) ⌝ }
-    ensures claims { λ r. ⌜ CheckSeen (record { tables = now (tables .entry); start = now (start .entry); claimed = now (claimed .entry); rewriting = now (rewriting .entry); a = now (a .entry); b = now (b .entry) }) r (now (place .exit)) (now (steps .exit)) (now (size .exit)) ⌝ }
-    ensures single { λ r. ⌜ StepSeen (record { tables = now (tables .entry); start = now (start .entry); claimed = now (claimed .entry); rewriting = now (rewriting .entry); a = now (a .entry); b = now (b .entry) }) (now (a .exit)) (now (b .exit)) r (now (place .exit)) (now (steps .exit)) (now (size .exit)) ⌝ }
+    ensures whole { λ r. ⌜ _≡_ {A = Returned}
+        (record {
+          number = r;
+          place = now (place .exit);
+          values = now (steps .exit) ∷ now (size .exit) ∷ [];
+          areas = now (a .exit) ∷ now (b .exit) ∷ [];
+        })
+        (check-returned (now (tables .entry)) (now (start .entry)) (now (claimed .entry)) (now (rewriting .entry))
+        (now (a .entry)) (now (b .entry))) ⌝ }
+    ensures claims { λ r. ⌜ CheckSeen
+        (check-given (now (tables .entry)) (now (start .entry)) (now (claimed .entry)) (now (rewriting .entry))
+        (now (a .entry)) (now (b .entry)))
+        r (now (place .exit)) (now (steps .exit)) (now (size .exit)) ⌝ }
+    ensures single { λ r. ⌜ StepSeen
+        (check-given (now (tables .entry)) (now (start .entry)) (now (claimed .entry)) (now (rewriting .entry))
+        (now (a .entry)) (now (b .entry)))
+        (now (a .exit)) (now (b .exit)) r (now (place .exit)) (now (steps .exit)) (now (size .exit)) ⌝ }
 {
     let answer = aberulwy::check_rewriting(tables, start, claimed, rewriting, a, b);
     hand_checked(answer, steps, size, place)
@@ -321,8 +364,14 @@ pub extern "C" fn aberulwy_read_station(
     size: &mut usize,
     place: &mut usize,
 ) -> u8
-    ensures whole { λ r. ⌜ Answered (reported (file-refusal (now (file .entry)) (length (now (tables .entry))) (length (now (plan .entry)))) (length (plan-held (now (file .entry))) ∷ [])) r (now (place .exit)) (now (size .exit)) 0 ⌝ }
-    ensures areas { λ r. ⌜ (now (tables .exit) ≡ station-outcome (now (file .entry)) (now (tables .entry)) (now (plan .entry)) .tables) × (now (plan .exit) ≡ station-outcome (now (file .entry)) (now (tables .entry)) (now (plan .entry)) .plan) ⌝ }
+    ensures whole { λ r. ⌜ _≡_ {A = Returned}
+        (record {
+          number = r;
+          place = now (place .exit);
+          values = now (size .exit) ∷ [];
+          areas = now (tables .exit) ∷ now (plan .exit) ∷ [];
+        })
+        (station-returned (now (file .entry)) (now (tables .entry)) (now (plan .entry))) ⌝ }
 {
     *size = 0;
     *place = 0;
@@ -339,7 +388,8 @@ pub extern "C" fn aberulwy_read_station(
 // short, which then keeps its bytes. No listing is longer than 93,000 bytes.
 #[no_mangle]
 pub extern "C" fn aberulwy_list_station(file: &[u8], out: &mut [u8], size: &mut usize) -> u8
-    ensures whole { λ r. ⌜ _≡_ {A = HandedOver} (record { number = r; size = now (size .exit); out = now (out .exit) }) (handed-over (listing (now (file .entry))) (now (out .entry))) ⌝ }
+    ensures whole { λ r. ⌜ _≡_ {A = HandedOver} (record { number = r; size = now (size .exit); out = now (out .exit) })
+        (handed-over (listing (now (file .entry))) (now (out .entry))) ⌝ }
     ensures bounded { λ r. ⌜ length (listing (now (file .entry))) ≤ most ⌝ }
     ensures endings { λ r. ⌜ Endings (now (file .entry)) ⌝ }
 {

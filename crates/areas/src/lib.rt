@@ -4,7 +4,7 @@ ghost use mathlib.Core.Path.{_≡_};
 ghost use Prim.Native.Nat.{_+_, _≤_, _<_, min};
 ghost use mathlib.Core.List.{_∷_, [], _++_};
 ghost use lib.ListN.{length, take};
-ghost use Rattle.areas.specs.Area.{overwrite, padded, most-words};
+ghost use Rattle.areas.specs.Area.{overwrite, Written, padded, most-words};
 ghost use Rattle.areas.specs.Storing.{no-step, stepped, before, Undoable, Storable, Stored};
 
 // "A plan is 1 to 16,384 bytes": the most words of a plan.
@@ -22,7 +22,7 @@ pub fn put_word(word: u8, dst: &mut [u8], at: usize) -> usize
 // Copies words in at a place; the place after them.
 pub fn copy_in(src: &[u8], dst: &mut [u8], at: usize) -> usize
     requires { ⌜ at + length (now src) ≤ length (now dst) ⌝ }
-    ensures { λ r. ⌜ (now (dst .exit) ≡ overwrite (now (dst .entry)) at (now (src .entry))) × (r ≡ at + length (now (src .entry))) ⌝ }
+    ensures { λ r. ⌜ Written (now (dst .entry)) (now (dst .exit)) at (now (src .entry)) r ⌝ }
 {
     let mut i: usize = 0;
     while i < src.len() {
@@ -99,7 +99,8 @@ pub fn no_step() -> StepState
 // Puts a plan of two parts into an area, with zeros behind; how many words it has.
 fn put_plan(left: &[u8], right: &[u8], dst: &mut [u8]) -> usize
     requires { ⌜ length (now left ++ now right) ≤ length (now dst) ⌝ }
-    ensures { λ r. ⌜ (now (dst .exit) ≡ padded (now (left .entry) ++ now (right .entry)) (length (now (dst .entry)))) × (r ≡ length (now (left .entry) ++ now (right .entry))) ⌝ }
+    ensures { λ r. ⌜ (now (dst .exit) ≡ padded (now (left .entry) ++ now (right .entry)) (length (now (dst .entry))))
+        × (r ≡ length (now (left .entry) ++ now (right .entry))) ⌝ }
 {
     let middle = copy_in(left, dst, 0);
     let end = copy_in(right, dst, middle);
@@ -137,7 +138,8 @@ pub fn store(
     b: &mut [u8],
 ) -> usize
     requires { ⌜ Storable state (now left ++ now right) (now old) (length (now a)) (length (now b)) ⌝ }
-    ensures { λ r. ⌜ Stored (now (a .entry)) (now (b .entry)) (now (a .exit)) (now (b .exit)) state (now (left .entry) ++ now (right .entry)) (now (old .entry)) r ⌝ }
+    ensures { λ r. ⌜ Stored (now (a .entry)) (now (b .entry)) (now (a .exit)) (now (b .exit)) state
+        (now (left .entry) ++ now (right .entry)) (now (old .entry)) r ⌝ }
 {
     let even = state.even;
     if even {

@@ -43,7 +43,9 @@ impl State {
 // Puts a plan at the end of the array of words to read; the state with nothing read and no step made.
 pub fn load(plan: &[u8], right: &mut [u8]) -> State
     requires { ⌜ (length (now plan) ≤ most-words) × (length (now right) ≡ most-words) ⌝ }
-    ensures { λ r. ⌜ (r ≡ loaded (length (now (plan .entry)))) × (drop (most-words - length (now (plan .entry))) (now (right .exit)) ≡ now (plan .entry)) × (length (now (right .exit)) ≡ most-words) ⌝ }
+    ensures { λ r. ⌜ (r ≡ loaded (length (now (plan .entry))))
+        × (drop (most-words - length (now (plan .entry))) (now (right .exit)) ≡ now (plan .entry))
+        × (length (now (right .exit)) ≡ most-words) ⌝ }
 {
     let rest = MOST_WORDS - plan.len();
     areas::copy_in(plan, right, rest);

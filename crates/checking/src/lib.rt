@@ -113,9 +113,14 @@ fn replay_on(
     state: State,
     limit: usize,
 ) -> Last
-    requires { ⌜ (n ≡ actions (now tables)) × Lawful (now tables) × (limit ≤ most-words) × (length (now old) ≡ most-words) × (unknown-law 0 (moves-of (now rewriting)) ≡ none) ⌝ }
-    requires { ⌜ Working (now tables) (now left) (now starts) (now right) state × Kept limit (plan-in (now left) (now right) state) (now old) (state .made) × (state .made .steps ≡ 0) ⌝ }
-    ensures { λ r. ⌜ Replayed (now (tables .entry)) limit (moves-of (now (rewriting .entry))) 0 (plan-in (now (left .entry)) (now (right .entry)) state) (before (state .made) (plan-in (now (left .entry)) (now (right .entry)) state) (now (old .entry))) (now (left .exit)) (now (starts .exit)) (now (right .exit)) (now (old .exit)) r ⌝ }
+    requires { ⌜ (n ≡ actions (now tables)) × Lawful (now tables) × (limit ≤ most-words)
+        × (length (now old) ≡ most-words) × (unknown-law 0 (moves-of (now rewriting)) ≡ none) ⌝ }
+    requires { ⌜ Working (now tables) (now left) (now starts) (now right) state
+        × Kept limit (plan-in (now left) (now right) state) (now old) (state .made) × (state .made .steps ≡ 0) ⌝ }
+    ensures { λ r. ⌜ Replayed (now (tables .entry)) limit (moves-of (now (rewriting .entry))) 0
+        (plan-in (now (left .entry)) (now (right .entry)) state)
+        (before (state .made) (plan-in (now (left .entry)) (now (right .entry)) state) (now (old .entry)))
+        (now (left .exit)) (now (starts .exit)) (now (right .exit)) (now (old .exit)) r ⌝ }
 {
     let mut gap = state;
     let mut at: usize = 0;
@@ -186,8 +191,11 @@ fn check_accepted(
     a: &mut [u8],
     b: &mut [u8],
 ) -> Checked
-    requires { ⌜ (plan-refusal (now tables) (now start) ≡ none) × (limit ≡ capacity (now a) (now b)) × (length (now start) ≤ limit) × (unknown-law 0 (moves-of (now rewriting)) ≡ none) ⌝ }
-    ensures { λ r. ⌜ _≡_ {A = CheckOutcome} (record { answer = r; a = now (a .exit); b = now (b .exit) }) (settled (replay-of (now (tables .entry)) (now (start .entry)) (now (claimed .entry)) (now (rewriting .entry)) limit) (now (a .entry)) (now (b .entry))) ⌝ }
+    requires { ⌜ (plan-refusal (now tables) (now start) ≡ none) × (limit ≡ capacity (now a) (now b))
+        × (length (now start) ≤ limit) × (unknown-law 0 (moves-of (now rewriting)) ≡ none) ⌝ }
+    ensures { λ r. ⌜ _≡_ {A = CheckOutcome} (record { answer = r; a = now (a .exit); b = now (b .exit) })
+        (settled (replay-of (now (tables .entry)) (now (start .entry)) (now (claimed .entry)) (now (rewriting .entry)) limit)
+        (now (a .entry)) (now (b .entry))) ⌝ }
 {
     let n = tables::actions_of(tables);
     let mut left = [0u8; MOST_WORDS];
@@ -240,7 +248,8 @@ pub fn check_rewriting(
     a: &mut [u8],
     b: &mut [u8],
 ) -> Checked
-    ensures whole { λ r. ⌜ _≡_ {A = CheckOutcome} (record { answer = r; a = now (a .exit); b = now (b .exit) }) (check-outcome (now (tables .entry)) (now (start .entry)) (now (claimed .entry)) (now (rewriting .entry)) (now (a .entry)) (now (b .entry))) ⌝ }
+    ensures whole { λ r. ⌜ _≡_ {A = CheckOutcome} (record { answer = r; a = now (a .exit); b = now (b .exit) })
+        (check-outcome (now (tables .entry)) (now (start .entry)) (now (claimed .entry)) (now (rewriting .entry)) (now (a .entry)) (now (b .entry))) ⌝ }
 {
     match plans::judge_plan(tables, start) {
         Judgement::Refused(refusal) => {

@@ -30,6 +30,9 @@ pub record UnfoldGiven : Type 0 where
   pub a : List ℕ
   pub b : List ℕ
 
+abbrev pub unfold-given : Tables → List ℕ → ℕ → List ℕ → List ℕ → List ℕ → UnfoldGiven
+unfold-given t plan m list a b = record { tables = t; plan = plan; allowance = m; list = list; a = a; b = b }
+
 -- an answer that reports so many steps made and so many words reached: finished, or ended in 34, 35 or 36
 pub data Reports : Unfolded → ℕ → ℕ → Type 0 where
   finished : {steps size : ℕ} → Reports (Finished steps size) steps size
@@ -92,6 +95,10 @@ pub record CheckGiven : Type 0 where
   pub rewriting : List ℕ
   pub a : List ℕ
   pub b : List ℕ
+
+abbrev pub check-given : Tables → List ℕ → List ℕ → List ℕ → List ℕ → List ℕ → CheckGiven
+check-given t start claimed rewriting a b =
+    record { tables = t; start = start; claimed = claimed; rewriting = rewriting; a = a; b = b }
 
 -- "For every law, place and accepted plan that the areas can hold"; "A single step is a rewriting of one record, with any accepted plan claimed"
 pub record SingleStep (given : CheckGiven) (law place : ℕ) : Type 0 where

@@ -39,7 +39,8 @@ pub fn load_words(src: &[u8], dst: &mut [u16], at: usize)
 // Puts the entries still to read on a stack, one after another; how many entries it has then.
 pub fn push_rest(todo: &[u16], rest: usize, stack: &mut [u16], height: usize) -> usize
     requires { ⌜ (rest ≤ length (now todo)) × (height + (length (now todo) - rest) ≤ length (now stack)) ⌝ }
-    ensures { λ r. ⌜ (r ≡ height + (length (now (todo .entry)) - rest)) × (stacked (now (stack .exit)) r ≡ onto (drop rest (now (todo .entry))) (stacked (now (stack .entry)) height)) ⌝ }
+    ensures { λ r. ⌜ (r ≡ height + (length (now (todo .entry)) - rest))
+        × (stacked (now (stack .exit)) r ≡ onto (drop rest (now (todo .entry))) (stacked (now (stack .entry)) height)) ⌝ }
 {
     let mut h: usize = height;
     let mut i: usize = rest;
@@ -63,7 +64,8 @@ pub fn write_back(
     end: usize,
 ) -> usize
     requires { ⌜ Writable (graph (now own) (now first) (now second)) (now stack) height (now dst) end ⌝ }
-    ensures { λ r. ⌜ WroteBack (graph (now (own .entry)) (now (first .entry)) (now (second .entry))) (now (stack .entry)) height (now (dst .entry)) (now (dst .exit)) end r ⌝ }
+    ensures { λ r. ⌜ WroteBack (graph (now (own .entry)) (now (first .entry)) (now (second .entry)))
+        (now (stack .entry)) height (now (dst .entry)) (now (dst .exit)) end r ⌝ }
 {
     let mut h: usize = height;
     let mut e: usize = end;

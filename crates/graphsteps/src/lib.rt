@@ -8,7 +8,8 @@ ghost use Prim.Native.Nat.{_+_, _≤_, _<_};
 ghost use lib.ListN.{length, set};
 ghost use Rattle.tables.specs.Tables.{actions};
 ghost use Rattle.tables.specs.Lawful.{Lawful};
-ghost use Rattle.graphsteps.specs.Holding.{arrays, Fits, SomePlan, Signed, TakenFor, SizesOf, size-under, after-term, after-sign, with-term, with-sign, with-step, AdvancedOn};
+ghost use Rattle.graphsteps.specs.Holding.{arrays, Fits, SomePlan, Signed, TakenFor, SizesOf, size-under, after-term};
+ghost use Rattle.graphsteps.specs.Holding.{after-sign, with-term, with-sign, with-step, AdvancedOn};
 ghost use Rattle.areas.specs.Area.{most-words};
 ghost use Rattle.graph.specs.Graph.{most-nodes};
 
@@ -147,9 +148,17 @@ fn read_sign(
     operands: Operands,
     size: usize,
 ) -> Reading
-    requires { ⌜ (length (now own) ≤ most-nodes) × (length (now first) ≡ length (now own)) × (length (now second) ≡ length (now own)) × (length (now sizes) ≡ length (now own)) × (length (now stack) ≡ most-words) ⌝ }
-    requires { ⌜ (reading .count < length (now own)) × (reading .rest < most-words) × (reading .read ≤ most-words) × (operands .under < most-words) × (size < 65536) ⌝ }
-    ensures { λ r. ⌜ (r ≡ after-sign reading operands) × (now (own .exit) ≡ set (now (own .entry)) (reading .count) word) × (now (first .exit) ≡ set (now (first .entry)) (reading .count) (operands .a)) × (now (second .exit) ≡ set (now (second .entry)) (reading .count) (operands .b)) × (now (sizes .exit) ≡ set (now (sizes .entry)) (reading .count) size) × (now (stack .exit) ≡ set (now (stack .entry)) (operands .under) (reading .count)) ⌝ }
+    requires { ⌜ (length (now own) ≤ most-nodes) × (length (now first) ≡ length (now own))
+        × (length (now second) ≡ length (now own)) × (length (now sizes) ≡ length (now own))
+        × (length (now stack) ≡ most-words) ⌝ }
+    requires { ⌜ (reading .count < length (now own)) × (reading .rest < most-words) × (reading .read ≤ most-words)
+        × (operands .under < most-words) × (size < 65536) ⌝ }
+    ensures { λ r. ⌜ (r ≡ after-sign reading operands)
+        × (now (own .exit) ≡ set (now (own .entry)) (reading .count) word)
+        × (now (first .exit) ≡ set (now (first .entry)) (reading .count) (operands .a))
+        × (now (second .exit) ≡ set (now (second .entry)) (reading .count) (operands .b))
+        × (now (sizes .exit) ≡ set (now (sizes .entry)) (reading .count) size)
+        × (now (stack .exit) ≡ set (now (stack .entry)) (operands .under) (reading .count)) ⌝ }
 {
     let count = reading.count;
     let under = operands.under;
@@ -178,8 +187,12 @@ pub fn advance(
     limit: usize,
 ) -> NextEntry
     requires { ⌜ (n ≡ actions (now tables)) × Lawful (now tables) × (limit ≤ most-words) × (reading .rest < most-words) ⌝ }
-    requires { ⌜ Fits (arrays (now own) (now first) (now second) (now sizes) (now stack) (now todo)) reading × SomePlan (now tables) limit (arrays (now own) (now first) (now second) (now sizes) (now stack) (now todo)) reading ⌝ }
-    ensures { λ r. ⌜ AdvancedOn (now (tables .entry)) limit allowed room (arrays (now (own .entry)) (now (first .entry)) (now (second .entry)) (now (sizes .entry)) (now (stack .entry)) (now (todo .entry))) (arrays (now (own .exit)) (now (first .exit)) (now (second .exit)) (now (sizes .exit)) (now (stack .exit)) (now (todo .exit))) reading r ⌝ }
+    requires { ⌜ Fits (arrays (now own) (now first) (now second) (now sizes) (now stack) (now todo)) reading
+        × SomePlan (now tables) limit (arrays (now own) (now first) (now second) (now sizes) (now stack) (now todo)) reading ⌝ }
+    ensures { λ r. ⌜ AdvancedOn (now (tables .entry)) limit allowed room
+        (arrays (now (own .entry)) (now (first .entry)) (now (second .entry)) (now (sizes .entry)) (now (stack .entry)) (now (todo .entry)))
+        (arrays (now (own .exit)) (now (first .exit)) (now (second .exit)) (now (sizes .exit)) (now (stack .exit)) (now (todo .exit)))
+        reading r ⌝ }
 {
     let rest = reading.rest;
     let count = reading.count;

@@ -44,8 +44,12 @@ fn put_ending<'a>(
     b: &'a [u8],
     out: &mut [u8],
 ) -> usize
-    requires { ⌜ (actions (now tables) ≤ 31) × (length (now a) ≡ 8192) × (length (now b) ≡ 8192) × (3 * steps ≤ length (now list)) × (length (now list) ≡ 15000) × (most ≤ length (now out)) ⌝ }
-    ensures { λ r. ⌜ (take r (now (out .exit)) ≡ ending (actions (now (tables .entry))) number steps (reached-part (even? steps) size (now (a .entry)) (now (b .entry))) (own-rewriting steps (now (list .entry)))) × (r ≤ most) ⌝ }
+    requires { ⌜ (actions (now tables) ≤ 31) × (length (now a) ≡ 8192) × (length (now b) ≡ 8192)
+        × (3 * steps ≤ length (now list)) × (length (now list) ≡ 15000) × (most ≤ length (now out)) ⌝ }
+    ensures { λ r. ⌜ (take r (now (out .exit))
+        ≡ ending (actions (now (tables .entry))) number steps
+        (reached-part (even? steps) size (now (a .entry)) (now (b .entry))) (own-rewriting steps (now (list .entry))))
+        × (r ≤ most) ⌝ }
 {
     let plan = aberulwy::reached(a, b, steps, size);
     let orders = plans::count_orders(tables::actions_of(tables), plan);

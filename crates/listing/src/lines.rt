@@ -57,7 +57,8 @@ fn put_step(law: u8, place: usize, out: &mut [u8], at: usize) -> usize
 // A line for each step that is recorded.
 pub fn put_steps(records: &[u8], out: &mut [u8], at: usize) -> usize
     requires { ⌜ at + 4 * length (now records) ≤ length (now out) ⌝ }
-    ensures { λ r. ⌜ Wrote (now (out .entry)) at (step-lines (moves-of (now (records .entry)))) (now (out .exit)) r × (r ≤ at + 4 * length (now (records .entry))) ⌝ }
+    ensures { λ r. ⌜ Wrote (now (out .entry)) at (step-lines (moves-of (now (records .entry)))) (now (out .exit)) r
+        × (r ≤ at + 4 * length (now (records .entry))) ⌝ }
 {
     let mut next = at;
     let mut i: usize = 0;

@@ -53,7 +53,8 @@ pub fn set_at(plan: &[u8], from: &[u16]) -> u8
 // Whether a is in the set.
 pub fn in_set(tables: &[u8], plan: &[u8], from: &[u16]) -> bool
     requires { ⌜ length (now from) ≡ 7 ⌝ }
-    ensures { λ r. ⌜ r ≡ blocked (now (tables .entry)) (set-from (now (plan .entry)) (now (from .entry))) (word-from (now (plan .entry)) (now (from .entry)) 3) ⌝ }
+    ensures { λ r. ⌜ r ≡ blocked (now (tables .entry)) (set-from (now (plan .entry)) (now (from .entry)))
+        (word-from (now (plan .entry)) (now (from .entry)) 3) ⌝ }
 {
     let set = set_at(plan, from);
     let a = word_at(plan, from, 3);
@@ -63,7 +64,8 @@ pub fn in_set(tables: &[u8], plan: &[u8], from: &[u16]) -> bool
 // Whether a is below b.
 pub fn a_below_b(tables: &[u8], plan: &[u8], from: &[u16]) -> bool
     requires { ⌜ length (now from) ≡ 7 ⌝ }
-    ensures { λ r. ⌜ r ≡ below (now (tables .entry)) (word-from (now (plan .entry)) (now (from .entry)) 3) (word-from (now (plan .entry)) (now (from .entry)) 4) ⌝ }
+    ensures { λ r. ⌜ r ≡ below (now (tables .entry)) (word-from (now (plan .entry)) (now (from .entry)) 3)
+        (word-from (now (plan .entry)) (now (from .entry)) 4) ⌝ }
 {
     let a = word_at(plan, from, 3);
     let b = word_at(plan, from, 4);
@@ -73,7 +75,8 @@ pub fn a_below_b(tables: &[u8], plan: &[u8], from: &[u16]) -> bool
 // Whether x and y are equal in their words.
 pub fn same_letters(plan: &[u8], from: &[u16], to: &[u16]) -> bool
     requires { ⌜ Reaches (now plan) (now from) (now to) ⌝ }
-    ensures { λ r. ⌜ r ≡ same-bytes (letter (now (plan .entry)) (now (from .entry)) (now (to .entry)) 0) (letter (now (plan .entry)) (now (from .entry)) (now (to .entry)) 1) ⌝ }
+    ensures { λ r. ⌜ r ≡ same-bytes (letter (now (plan .entry)) (now (from .entry)) (now (to .entry)) 0)
+        (letter (now (plan .entry)) (now (from .entry)) (now (to .entry)) 1) ⌝ }
 {
     let a = from[0] as usize;
     let b = to[0] as usize;

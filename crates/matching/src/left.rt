@@ -242,7 +242,8 @@ pub fn match_pattern(
 ) -> bool
     requires { ⌜ Ready n (now plan) (now starts) ⌝ }
     requires { ⌜ (length (now from) ≡ 7) × (length (now to) ≡ 7) ⌝ }
-    ensures { λ r. ⌜ _≡_ {A = Matched} (record { ok = r; from = now (from .exit); to = now (to .exit) }) (match-words n (now (plan .entry)) (now (pattern .entry)) (length (now (plan .entry))) (now (from .entry)) (now (to .entry))) ⌝ }
+    ensures { λ r. ⌜ _≡_ {A = Matched} (record { ok = r; from = now (from .exit); to = now (to .exit) })
+        (match-words n (now (plan .entry)) (now (pattern .entry)) (length (now (plan .entry))) (now (from .entry)) (now (to .entry))) ⌝ }
 {
     let mut e: usize = plan.len();
     let mut i: usize = 0;
@@ -276,7 +277,8 @@ pub fn match_left(
     requires { ⌜ (1 ≤ law) × (law ≤ highest-law) ⌝ }
     requires { ⌜ Ready n (now plan) (now starts) ⌝ }
     requires { ⌜ (length (now from) ≡ 7) × (length (now to) ≡ 7) ⌝ }
-    ensures { λ r. ⌜ _≡_ {A = Matched} (record { ok = r; from = now (from .exit); to = now (to .exit) }) (match-words n (now (plan .entry)) (back (law-at law .lhs)) (length (now (plan .entry))) (now (from .entry)) (now (to .entry))) ⌝ }
+    ensures { λ r. ⌜ _≡_ {A = Matched} (record { ok = r; from = now (from .exit); to = now (to .exit) })
+        (match-words n (now (plan .entry)) (back (law-at law .lhs)) (length (now (plan .entry))) (now (from .entry)) (now (to .entry))) ⌝ }
 {
     let table = LEFT;
     let i = law as usize;

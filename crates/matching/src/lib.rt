@@ -8,7 +8,7 @@ mod right;
 ghost use mathlib.Core.Path.{_≡_};
 ghost use Prim.Native.Nat.{_+_, _≤_, _<_};
 ghost use lib.ListN.{length};
-ghost use Rattle.areas.specs.Area.{overwrite};
+ghost use Rattle.areas.specs.Area.{Written};
 ghost use Rattle.laws.specs.Laws.{same-bytes, highest-law};
 ghost use Rattle.matching.specs.Start.{Ready};
 ghost use Rattle.matching.specs.Right.{spelled-law, law-size, Reaches};
@@ -44,7 +44,8 @@ pub fn law_fits(
 ) -> bool
     requires { ⌜ (1 ≤ law) × (law ≤ highest-law) ⌝ }
     requires { ⌜ Ready n (now plan) (now starts) × Reaches (now plan) (now from) (now to) ⌝ }
-    ensures { λ r. ⌜ Tried (now (tables .entry)) law (now (plan .entry)) (now (from .exit)) (now (to .exit)) (law-term (now (tables .entry)) n law (now (plan .entry))) r ⌝ }
+    ensures { λ r. ⌜ Tried (now (tables .entry)) law (now (plan .entry)) (now (from .exit)) (now (to .exit))
+        (law-term (now (tables .entry)) n law (now (plan .entry))) r ⌝ }
     ensures { λ r. ⌜ Reaches (now (plan .entry)) (now (from .exit)) (now (to .exit)) ⌝ }
 {
     if left::match_left(law, n, plan, starts, &mut *from, &mut *to) {
@@ -78,7 +79,8 @@ pub fn put_side(
 ) -> usize
     requires { ⌜ (1 ≤ law) × (law ≤ highest-law) × Reaches (now plan) (now from) (now to) ⌝ }
     requires { ⌜ at + length (spelled-law (now tables) law (now plan) (now from) (now to)) ≤ length (now dst) ⌝ }
-    ensures { λ r. ⌜ (now (dst .exit) ≡ overwrite (now (dst .entry)) at (spelled-law (now (tables .entry)) law (now (plan .entry)) (now (from .entry)) (now (to .entry)))) × (r ≡ at + length (spelled-law (now (tables .entry)) law (now (plan .entry)) (now (from .entry)) (now (to .entry)))) ⌝ }
+    ensures { λ r. ⌜ Written (now (dst .entry)) (now (dst .exit)) at
+        (spelled-law (now (tables .entry)) law (now (plan .entry)) (now (from .entry)) (now (to .entry))) r ⌝ }
 {
     let a = condition::word_at(plan, from, 3);
     let b = condition::word_at(plan, from, 4);

@@ -2,7 +2,7 @@
 ghost use mathlib.Core.Path.{_≡_};
 ghost use Prim.Native.Nat.{_+_, _≤_, _<_};
 ghost use lib.ListN.{length};
-ghost use Rattle.areas.specs.Area.{overwrite};
+ghost use Rattle.areas.specs.Area.{Written};
 ghost use Rattle.matching.specs.Right.{spelled-one, spelled, Reaches, width, sized};
 
 // The right sides of the laws, each from its first word to its last. Letters x, y, z, a, b are 96 to 100, ∂ by the left side's set is 101, and
@@ -229,7 +229,8 @@ pub fn put_one(
 ) -> usize
     requires { ⌜ Reaches (now plan) (now from) (now to) ⌝ }
     requires { ⌜ at + length (spelled-one entry (now plan) (now from) (now to) word) ≤ length (now dst) ⌝ }
-    ensures { λ r. ⌜ (now (dst .exit) ≡ overwrite (now (dst .entry)) at (spelled-one entry (now (plan .entry)) (now (from .entry)) (now (to .entry)) word)) × (r ≡ at + length (spelled-one entry (now (plan .entry)) (now (from .entry)) (now (to .entry)) word)) ⌝ }
+    ensures { λ r. ⌜ Written (now (dst .entry)) (now (dst .exit)) at
+        (spelled-one entry (now (plan .entry)) (now (from .entry)) (now (to .entry)) word) r ⌝ }
 {
     if word < 96 {
         return areas::put_word(word, dst, at);
@@ -255,7 +256,8 @@ pub fn put_words(
 ) -> usize
     requires { ⌜ Reaches (now plan) (now from) (now to) ⌝ }
     requires { ⌜ at + length (spelled entry (now plan) (now from) (now to) (now words)) ≤ length (now dst) ⌝ }
-    ensures { λ r. ⌜ (now (dst .exit) ≡ overwrite (now (dst .entry)) at (spelled entry (now (plan .entry)) (now (from .entry)) (now (to .entry)) (now (words .entry)))) × (r ≡ at + length (spelled entry (now (plan .entry)) (now (from .entry)) (now (to .entry)) (now (words .entry)))) ⌝ }
+    ensures { λ r. ⌜ Written (now (dst .entry)) (now (dst .exit)) at
+        (spelled entry (now (plan .entry)) (now (from .entry)) (now (to .entry)) (now (words .entry))) r ⌝ }
 {
     let mut e: usize = at;
     let mut i: usize = 0;

@@ -59,9 +59,14 @@ pub fn make_steps(
     allowed: usize,
     limit: usize,
 ) -> StepsMade
-    requires { ⌜ (n ≡ actions (now tables)) × Lawful (now tables) × (limit ≤ most-words) × (used ≤ length (now list)) × (state .steps + allowed < 18446744073709551615) ⌝ }
-    requires { ⌜ Fits (arrays (now own) (now first) (now second) (now sizes) (now stack) (now todo)) reading × SomePlan (now tables) limit (arrays (now own) (now first) (now second) (now sizes) (now stack) (now todo)) reading ⌝ }
-    ensures { λ r. ⌜ MadeOn (now (tables .entry)) limit allowed used (now (list .entry)) (now (list .exit)) (arrays (now (own .entry)) (now (first .entry)) (now (second .entry)) (now (sizes .entry)) (now (stack .entry)) (now (todo .entry))) (arrays (now (own .exit)) (now (first .exit)) (now (second .exit)) (now (sizes .exit)) (now (stack .exit)) (now (todo .exit))) reading state r ⌝ }
+    requires { ⌜ (n ≡ actions (now tables)) × Lawful (now tables) × (limit ≤ most-words) × (used ≤ length (now list))
+        × (state .steps + allowed < 18446744073709551615) ⌝ }
+    requires { ⌜ Fits (arrays (now own) (now first) (now second) (now sizes) (now stack) (now todo)) reading
+        × SomePlan (now tables) limit (arrays (now own) (now first) (now second) (now sizes) (now stack) (now todo)) reading ⌝ }
+    ensures { λ r. ⌜ MadeOn (now (tables .entry)) limit allowed used (now (list .entry)) (now (list .exit))
+        (arrays (now (own .entry)) (now (first .entry)) (now (second .entry)) (now (sizes .entry)) (now (stack .entry)) (now (todo .entry)))
+        (arrays (now (own .exit)) (now (first .exit)) (now (second .exit)) (now (sizes .exit)) (now (stack .exit)) (now (todo .exit)))
+        reading state r ⌝ }
 {
     let mut here = reading;
     let mut cut = Cut {

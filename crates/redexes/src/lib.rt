@@ -44,8 +44,11 @@ pub fn redex_at(
     a: u16,
     b: u16,
 ) -> Redex
-    requires { ⌜ Lawful (now tables) × Nodes (graph (now own) (now first) (now second)) × RootTerm (actions (now tables)) (graph (now own) (now first) (now second)) word a b ⌝ }
-    ensures { λ r. ⌜ ChosenRoot (now (tables .entry)) (actions (now (tables .entry))) (graph (now (own .entry)) (now (first .entry)) (now (second .entry))) word a b (slots-of r) (r .law) × (r .a ≤ 31) × (r .b ≤ 31) ⌝ }
+    requires { ⌜ Lawful (now tables) × Nodes (graph (now own) (now first) (now second))
+        × RootTerm (actions (now tables)) (graph (now own) (now first) (now second)) word a b ⌝ }
+    ensures { λ r. ⌜ ChosenRoot (now (tables .entry)) (actions (now (tables .entry)))
+        (graph (now (own .entry)) (now (first .entry)) (now (second .entry))) word a b (slots-of r) (r .law)
+        × (r .a ≤ 31) × (r .b ≤ 31) ⌝ }
 {
     if word == 64 {
         return root::choice_redex(a, b);
@@ -101,7 +104,8 @@ fn put_entries(sizes: &[u16], todo: &mut [u16], at: Bounds, entries: [u16; 11], 
 pub fn put_side(tables: &[u8], sizes: &[u16], redex: Redex, todo: &mut [u16], at: Bounds) -> Put
     requires { ⌜ (first-choice ≤ redex .law) × (redex .law ≤ highest-law) × (redex .a ≤ 31) × (redex .b ≤ 31) × (at .rest ≤ length (now todo)) ⌝ }
     requires { ⌜ PutReady (now sizes) (side-entries (now tables) (redex .law) (slots-of redex)) (at .rest) (at .most) ⌝ }
-    ensures { λ r. ⌜ PutBefore (now (sizes .entry)) (side-entries (now (tables .entry)) (redex .law) (slots-of redex)) (now (todo .entry)) (at .rest) (at .most) (now (todo .exit)) r ⌝ }
+    ensures { λ r. ⌜ PutBefore (now (sizes .entry)) (side-entries (now (tables .entry)) (redex .law) (slots-of redex))
+        (now (todo .entry)) (at .rest) (at .most) (now (todo .exit)) r ⌝ }
 {
     let law = redex.law;
     let x = redex.x;

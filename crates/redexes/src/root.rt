@@ -7,7 +7,9 @@ ghost use mathlib.Core.Bool.{_&&_};
 ghost use Prim.Native.Nat.{_≤_, _<_};
 ghost use Rattle.graph.specs.Graph.{graph, Nodes};
 ghost use Rattle.redexes.specs.Slots.{Entry};
-ghost use Rattle.redexes.specs.Redexes.{operand-of, Small, on-plans, on-actions, on-set, choice-redex, sequence-redex, left-merge-redex, begins-with-action, together-redex, communication-redex, unless-actions, unless-redex, priority-redex, encapsulation-redex};
+ghost use Rattle.redexes.specs.Redexes.{operand-of, Small, on-plans, on-actions, on-set, choice-redex, sequence-redex};
+ghost use Rattle.redexes.specs.Redexes.{left-merge-redex, begins-with-action, together-redex, communication-redex};
+ghost use Rattle.redexes.specs.Redexes.{unless-actions, unless-redex, priority-redex, encapsulation-redex};
 
 // An operand: the word at its root and the entries under it. For an action the word is 0, and the action stands for the entries.
 pub struct Operand {

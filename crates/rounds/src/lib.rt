@@ -69,7 +69,8 @@ pub fn write_out(
 ) -> usize
     requires { ⌜ Nodes (graph (now own) (now first) (now second)) × PlanOf (graph (now own) (now first) (now second)) (now stack) height (now todo) rest ⌝ }
     requires { ⌜ (length (now stack) ≡ most-words) × (length (now todo) ≡ most-words) × (length (now dst) ≡ most-words) × (rest ≤ most-words) ⌝ }
-    ensures { λ r. ⌜ WroteOut (graph (now (own .entry)) (now (first .entry)) (now (second .entry))) (now (stack .entry)) height (now (todo .entry)) rest (now (dst .exit)) r ⌝ }
+    ensures { λ r. ⌜ WroteOut (graph (now (own .entry)) (now (first .entry)) (now (second .entry)))
+        (now (stack .entry)) height (now (todo .entry)) rest (now (dst .exit)) r ⌝ }
 {
     let entries = graph::push_rest(todo, rest, &mut *stack, height);
     graph::write_back(own, first, second, stack, entries, dst, MOST_WORDS)
@@ -92,10 +93,15 @@ fn round_on(
     second: &mut [u16],
     sizes: &mut [u16],
 ) -> Round
-    requires { ⌜ (n ≡ actions (now tables)) × Lawful (now tables) × (limit ≤ most-words) × (used ≤ length (now list)) × (state .steps + allowed < 18446744073709551615) ⌝ }
+    requires { ⌜ (n ≡ actions (now tables)) × Lawful (now tables) × (limit ≤ most-words) × (used ≤ length (now list))
+        × (state .steps + allowed < 18446744073709551615) ⌝ }
     requires { ⌜ Given (now tables) limit (now words) (now old) front state ⌝ }
-    requires { ⌜ (limit + 256 ≤ length (now own)) × (length (now own) ≤ most-nodes) × (length (now first) ≡ length (now own)) × (length (now second) ≡ length (now own)) × (length (now sizes) ≡ length (now own)) ⌝ }
-    ensures { λ r. ⌜ RoundOf (now (tables .entry)) limit allowed used (now (words .entry)) (now (old .entry)) (now (list .entry)) (now (words .exit)) (now (old .exit)) (now (list .exit)) front state r ⌝ }
+    requires { ⌜ (limit + 256 ≤ length (now own)) × (length (now own) ≤ most-nodes)
+        × (length (now first) ≡ length (now own)) × (length (now second) ≡ length (now own))
+        × (length (now sizes) ≡ length (now own)) ⌝ }
+    ensures { λ r. ⌜ RoundOf (now (tables .entry)) limit allowed used
+        (now (words .entry)) (now (old .entry)) (now (list .entry))
+        (now (words .exit)) (now (old .exit)) (now (list .exit)) front state r ⌝ }
 {
     let mut stack = [0u16; MOST_WORDS];
     let mut todo = [0u16; MOST_WORDS];
@@ -170,9 +176,12 @@ pub fn make_round(
     allowed: usize,
     limit: usize,
 ) -> Round
-    requires { ⌜ (n ≡ actions (now tables)) × Lawful (now tables) × (limit ≤ most-words) × (used ≤ length (now list)) × (state .steps + allowed < 18446744073709551615) ⌝ }
+    requires { ⌜ (n ≡ actions (now tables)) × Lawful (now tables) × (limit ≤ most-words) × (used ≤ length (now list))
+        × (state .steps + allowed < 18446744073709551615) ⌝ }
     requires { ⌜ Given (now tables) limit (now words) (now old) front state ⌝ }
-    ensures { λ r. ⌜ RoundOf (now (tables .entry)) limit allowed used (now (words .entry)) (now (old .entry)) (now (list .entry)) (now (words .exit)) (now (old .exit)) (now (list .exit)) front state r ⌝ }
+    ensures { λ r. ⌜ RoundOf (now (tables .entry)) limit allowed used
+        (now (words .entry)) (now (old .entry)) (now (list .entry))
+        (now (words .exit)) (now (old .exit)) (now (list .exit)) front state r ⌝ }
 {
     if limit <= FEW_WORDS {
         let mut own = [0u8; FEW_NODES];

@@ -6,7 +6,7 @@ use mathlib.Core.Option.{Option, none, some}
 use lib.ListN.{length, take, drop}
 use lib.Dec.{eqb, leb}
 use Rattle.refusals.specs.declared.Refusal.{Refusal}
-use Rattle.refusals.specs.Refusal.{or-else, Report, refused-report}
+use Rattle.refusals.specs.Refusal.{or-else, Report, refused-report, reported}
 use Rattle.areas.specs.Area.{padded}
 use Rattle.tables.specs.Search.{first-from}
 use Rattle.plans.specs.Judging.{plan-refusal}
@@ -70,3 +70,7 @@ station-outcome f t p = unless-refused (file-refusal f (length t) (length p)) (t
 abbrev pub station-report : StationRead → Report
 station-report (Read size) = record { number = 0; place = 0; values = size ∷ [] }
 station-report (Refused r) = refused-report r
+
+-- what is reported of reading the file f into the areas t and p
+abbrev pub station-reported : List ℕ → List ℕ → List ℕ → Report
+station-reported f t p = reported (file-refusal f (length t) (length p)) (length (plan-held f) ∷ [])

@@ -4,7 +4,7 @@ ghost use mathlib.Core.Option.{none};
 ghost use Prim.Native.Nat.{_+_, _-_, _≤_};
 ghost use lib.ListN.{length};
 ghost use Rattle.refusals.specs.Refusal.{judged};
-ghost use Rattle.areas.specs.Area.{overwrite, padded};
+ghost use Rattle.areas.specs.Area.{overwrite, Written, padded};
 ghost use Rattle.stations.specs.Block.{count-of, used};
 ghost use Rattle.stations.specs.File.{blocks, length-right, held, form-refusal, held-refusal, StationOutcome, unless-refused};
 use super::StationRead;
@@ -54,7 +54,7 @@ pub fn judge_form(file: &[u8]) -> Judgement
 // Copies what a block holds into an area at a place; the place after it.
 pub fn put_used(block: &[u8], area: &mut [u8], at: usize) -> usize
     requires { ⌜ (length (now block) ≡ 512) × (count-of (now block) ≤ 504) × (at + length (used (now block)) ≤ length (now area)) ⌝ }
-    ensures { λ r. ⌜ (now (area .exit) ≡ overwrite (now (area .entry)) at (used (now (block .entry)))) × (r ≡ at + length (used (now (block .entry)))) ⌝ }
+    ensures { λ r. ⌜ Written (now (area .entry)) (now (area .exit)) at (used (now (block .entry))) r ⌝ }
 {
     let start = block::HEAD;
     let end = start + (block::word_at(block, block::COUNT) as usize);
@@ -63,8 +63,10 @@ pub fn put_used(block: &[u8], area: &mut [u8], at: usize) -> usize
 
 // Copies what the blocks from the first up to an end hold into an area; how many bytes that is.
 pub fn gather(file: &[u8], first: usize, end: usize, area: &mut [u8]) -> usize
-    requires { ⌜ (form-refusal (now file) ≡ none) × (first ≤ end) × (end ≤ blocks (now file)) × (length (held (now file) first (end - first)) ≤ length (now area)) ⌝ }
-    ensures { λ r. ⌜ (now (area .exit) ≡ overwrite (now (area .entry)) 0 (held (now (file .entry)) first (end - first))) × (r ≡ length (held (now (file .entry)) first (end - first))) ⌝ }
+    requires { ⌜ (form-refusal (now file) ≡ none) × (first ≤ end) × (end ≤ blocks (now file))
+        × (length (held (now file) first (end - first)) ≤ length (now area)) ⌝ }
+    ensures { λ r. ⌜ (now (area .exit) ≡ overwrite (now (area .entry)) 0 (held (now (file .entry)) first (end - first)))
+        × (r ≡ length (held (now (file .entry)) first (end - first))) ⌝ }
 {
     let mut at: usize = 0;
     for i in first..end {
@@ -101,7 +103,10 @@ pub fn put_whole(words: &[u8], area: &mut [u8])
 // Judges the tables and the plan that a file holds, and only then writes them into the areas.
 pub fn deliver(held: &[u8], words: &[u8], tables: &mut [u8], plan: &mut [u8]) -> StationRead
     requires { ⌜ length (now held) ≡ 2305 ⌝ }
-    ensures whole { λ r. ⌜ _≡_ {A = StationOutcome} (record { answer = r; tables = now (tables .exit); plan = now (plan .exit) }) (unless-refused (held-refusal (now (held .entry)) (now (words .entry)) (length (now (tables .entry))) (length (now (plan .entry)))) (now (held .entry)) (now (words .entry)) (now (tables .entry)) (now (plan .entry))) ⌝ }
+    ensures whole { λ r. ⌜ _≡_ {A = StationOutcome} (record { answer = r; tables = now (tables .exit); plan = now (plan .exit) })
+        (unless-refused
+        (held-refusal (now (held .entry)) (now (words .entry)) (length (now (tables .entry))) (length (now (plan .entry))))
+        (now (held .entry)) (now (words .entry)) (now (tables .entry)) (now (plan .entry))) ⌝ }
 {
     if let Judgement::Refused(refusal) = judge_held(held, words, tables.len(), plan.len()) {
         return StationRead::Refused(refusal);

@@ -15,7 +15,8 @@ pub enum StationRead {
 
 // Reads a station file: its tables and its plan into the areas, zeros after. Where the file is refused the areas are untouched.
 pub fn read_station(file: &[u8], tables: &mut [u8], plan: &mut [u8]) -> StationRead
-    ensures whole { λ r. ⌜ _≡_ {A = StationOutcome} (record { answer = r; tables = now (tables .exit); plan = now (plan .exit) }) (station-outcome (now (file .entry)) (now (tables .entry)) (now (plan .entry))) ⌝ }
+    ensures whole { λ r. ⌜ _≡_ {A = StationOutcome} (record { answer = r; tables = now (tables .exit); plan = now (plan .exit) })
+        (station-outcome (now (file .entry)) (now (tables .entry)) (now (plan .entry))) ⌝ }
 {
     if let Judgement::Refused(refusal) = file::judge_form(file) {
         return StationRead::Refused(refusal);

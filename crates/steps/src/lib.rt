@@ -40,8 +40,11 @@ pub fn put_in(
     limit: usize,
 ) -> Replaced
     requires { ⌜ (1 ≤ law) × (law ≤ highest-law) × (limit ≤ most-words) × (state .made .steps < 18446744073709551615) ⌝ }
-    requires { ⌜ (1 ≤ state .read) × Working (now tables) (now left) (now starts) (now right) state × Reaches (take (state .read) (now left)) (now from) (now to) × (length (now old) ≡ most-words) ⌝ }
-    ensures { λ r. ⌜ PutIn (now (tables .entry)) law limit (now (left .entry)) (now (starts .entry)) (now (right .entry)) (now (old .entry)) (now (from .entry)) (now (to .entry)) (now (right .exit)) (now (old .exit)) state r ⌝ }
+    requires { ⌜ (1 ≤ state .read) × Working (now tables) (now left) (now starts) (now right) state
+        × Reaches (take (state .read) (now left)) (now from) (now to) × (length (now old) ≡ most-words) ⌝ }
+    ensures { λ r. ⌜ PutIn (now (tables .entry)) law limit
+        (now (left .entry)) (now (starts .entry)) (now (right .entry)) (now (old .entry)) (now (from .entry)) (now (to .entry))
+        (now (right .exit)) (now (old .exit)) state r ⌝ }
 {
     let read = state.read;
     let rest = state.rest;
@@ -69,7 +72,9 @@ pub fn forward_to(
 ) -> State
     requires { ⌜ (n ≡ actions (now tables)) × (n ≤ 31) × Working (now tables) (now left) (now starts) (now right) state ⌝ }
     requires { ⌜ (state .read ≤ place + 1) × (place < length (plan-in (now left) (now right) state)) ⌝ }
-    ensures { λ r. ⌜ Same (now (tables .entry)) (now (left .entry)) (now (starts .entry)) (now (right .entry)) (now (left .exit)) (now (starts .exit)) (now (right .entry)) state r × (r .read ≡ place + 1) ⌝ }
+    ensures { λ r. ⌜ Same (now (tables .entry)) (now (left .entry)) (now (starts .entry)) (now (right .entry))
+        (now (left .exit)) (now (starts .exit)) (now (right .entry)) state r
+        × (r .read ≡ place + 1) ⌝ }
 {
     let mut read = state.read;
     let mut rest = state.rest;
@@ -91,7 +96,9 @@ pub fn back_to(
     place: usize,
 ) -> State
     requires { ⌜ Working (now tables) (now left) (now starts) (now right) state × (place < state .read) ⌝ }
-    ensures { λ r. ⌜ Same (now (tables .entry)) (now (left .entry)) (now (starts .entry)) (now (right .entry)) (now (left .entry)) (now (starts .entry)) (now (right .exit)) state r × (r .read ≡ place + 1) ⌝ }
+    ensures { λ r. ⌜ Same (now (tables .entry)) (now (left .entry)) (now (starts .entry)) (now (right .entry))
+        (now (left .entry)) (now (starts .entry)) (now (right .exit)) state r
+        × (r .read ≡ place + 1) ⌝ }
 {
     let mut read = state.read;
     let mut rest = state.rest;
@@ -119,7 +126,9 @@ pub fn make_step(
     requires { ⌜ (n ≡ actions (now tables)) × Lawful (now tables) × (1 ≤ law) × (law ≤ highest-law) ⌝ }
     requires { ⌜ (limit ≤ most-words) × (state .made .steps < 18446744073709551615) × (length (now old) ≡ most-words) ⌝ }
     requires { ⌜ Working (now tables) (now left) (now starts) (now right) state × Kept limit (plan-in (now left) (now right) state) (now old) (state .made) ⌝ }
-    ensures { λ r. ⌜ StepOf (now (tables .entry)) law place limit (now (left .entry)) (now (starts .entry)) (now (right .entry)) (now (old .entry)) (now (left .exit)) (now (starts .exit)) (now (right .exit)) (now (old .exit)) state r ⌝ }
+    ensures { λ r. ⌜ StepOf (now (tables .entry)) law place limit
+        (now (left .entry)) (now (starts .entry)) (now (right .entry)) (now (old .entry))
+        (now (left .exit)) (now (starts .exit)) (now (right .exit)) (now (old .exit)) state r ⌝ }
 {
     let size = state.read + (MOST_WORDS - state.rest);
     if size <= place {
@@ -175,8 +184,11 @@ pub fn seek(
     state: State,
     place: usize,
 ) -> State
-    requires { ⌜ (n ≡ actions (now tables)) × (n ≤ 31) × Working (now tables) (now left) (now starts) (now right) state × (place < length (plan-in (now left) (now right) state)) ⌝ }
-    ensures { λ r. ⌜ Same (now (tables .entry)) (now (left .entry)) (now (starts .entry)) (now (right .entry)) (now (left .exit)) (now (starts .exit)) (now (right .exit)) state r × (r .read ≡ place + 1) ⌝ }
+    requires { ⌜ (n ≡ actions (now tables)) × (n ≤ 31) × Working (now tables) (now left) (now starts) (now right) state
+        × (place < length (plan-in (now left) (now right) state)) ⌝ }
+    ensures { λ r. ⌜ Same (now (tables .entry)) (now (left .entry)) (now (starts .entry)) (now (right .entry))
+        (now (left .exit)) (now (starts .exit)) (now (right .exit)) state r
+        × (r .read ≡ place + 1) ⌝ }
 {
     if state.read <= place {
         forward_to(n, tables, left, starts, &*right, state, place)

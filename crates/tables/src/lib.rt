@@ -11,7 +11,10 @@ ghost use lib.Dec.{eqb, ltb};
 ghost use Rattle.refusals.specs.declared.Judgement.the-variants.{Accepted};
 ghost use Rattle.refusals.specs.Refusal.{judged};
 ghost use Rattle.tables.specs.Tables.{most-actions, sets-at, priority-at, entry-of, marked, actions, communication, below, blocked};
-ghost use Rattle.tables.specs.Judging.{entry-right, null-right, group-right, order-right, first-entry, first-triple, first-not-above, count-refusal, priority-entries, shared-entries, communication-refusal, order-refusal, shared-refusal, content-refusal, table-refusal};
+ghost use Rattle.tables.specs.Judging.{entry-right, null-right, group-right, order-right, first-entry, first-triple};
+ghost use Rattle.tables.specs.Judging.{first-not-above, count-refusal, priority-entries, shared-entries};
+ghost use Rattle.tables.specs.Judging.{communication-refusal, order-refusal, shared-refusal, content-refusal};
+ghost use Rattle.tables.specs.Judging.{table-refusal};
 ghost use Rattle.tables.specs.Lawful.{Lawful};
 ghost use Rattle.tables.specs.Condition.{entry-meets, triple-meets, found-refusal};
 
@@ -326,7 +329,8 @@ fn judge_order(tables: &[u8], start: usize, n: u8) -> Judgement
 
 // Refusals 2 to 6: n, communication and sets, with the entries of priority where they stand.
 fn judge_shared(tables: &[u8]) -> Judgement
-    ensures whole { λ r. ⌜ r ≡ judged (shared-refusal (now (tables .entry)) sets-at (priority-entries (now (tables .entry)) priority-at (actions (now (tables .entry))))) ⌝ }
+    ensures whole { λ r. ⌜ r ≡ judged
+        (shared-refusal (now (tables .entry)) sets-at (priority-entries (now (tables .entry)) priority-at (actions (now (tables .entry))))) ⌝ }
 {
     let n = actions_of(tables);
     let counted = judge_count(n);

@@ -57,7 +57,9 @@ fn run_on(
 ) -> Last
     requires { ⌜ (n ≡ actions (now tables)) × Lawful (now tables) × (limit ≤ most-words) × (now list ≡ padded [] (length (now list))) ⌝ }
     requires { ⌜ Given (now tables) limit (now words) (now old) front no-step ⌝ }
-    ensures { λ r. ⌜ RunMade (now (tables .entry)) limit (run-of (now (tables .entry)) (drop front (now (words .entry))) allowance (length (now (list .entry))) limit) (now (words .exit)) (now (old .exit)) (now (list .entry)) (now (list .exit)) r ⌝ }
+    ensures { λ r. ⌜ RunMade (now (tables .entry)) limit
+        (run-of (now (tables .entry)) (drop front (now (words .entry))) allowance (length (now (list .entry))) limit)
+        (now (words .exit)) (now (old .exit)) (now (list .entry)) (now (list .exit)) r ⌝ }
 {
     let mut start = front;
     let mut state = areas::no_step();
@@ -105,7 +107,9 @@ fn unfold_accepted(
     b: &mut [u8],
 ) -> Unfolded
     requires { ⌜ (plan-refusal (now tables) (now plan) ≡ none) × (limit ≡ capacity (now a) (now b)) × (length (now plan) ≤ limit) ⌝ }
-    ensures { λ r. ⌜ _≡_ {A = UnfoldOutcome} (record { answer = r; list = now (list .exit); a = now (a .exit); b = now (b .exit) }) (settled (run-of (now (tables .entry)) (now (plan .entry)) allowance (length (now (list .entry))) limit) (now (list .entry)) (now (a .entry)) (now (b .entry))) ⌝ }
+    ensures { λ r. ⌜ _≡_ {A = UnfoldOutcome} (record { answer = r; list = now (list .exit); a = now (a .exit); b = now (b .exit) })
+        (settled (run-of (now (tables .entry)) (now (plan .entry)) allowance (length (now (list .entry))) limit)
+        (now (list .entry)) (now (a .entry)) (now (b .entry))) ⌝ }
 {
     let n = tables::actions_of(tables);
     let mut words = [0u8; MOST_WORDS];
@@ -147,7 +151,8 @@ pub fn unfold(
     a: &mut [u8],
     b: &mut [u8],
 ) -> Unfolded
-    ensures whole { λ r. ⌜ _≡_ {A = UnfoldOutcome} (record { answer = r; list = now (list .exit); a = now (a .exit); b = now (b .exit) }) (unfold-outcome (now (tables .entry)) (now (plan .entry)) allowance (now (list .entry)) (now (a .entry)) (now (b .entry))) ⌝ }
+    ensures whole { λ r. ⌜ _≡_ {A = UnfoldOutcome} (record { answer = r; list = now (list .exit); a = now (a .exit); b = now (b .exit) })
+        (unfold-outcome (now (tables .entry)) (now (plan .entry)) allowance (now (list .entry)) (now (a .entry)) (now (b .entry))) ⌝ }
 {
     match plans::judge_plan(tables, plan) {
         Judgement::Refused(refusal) => {

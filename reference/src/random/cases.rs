@@ -299,8 +299,8 @@ fn claim(random: &mut Random, n: u8, start: &[u8], made: &Derivation) -> Vec<u8>
     }
 }
 
-/// The unfolding's own rewriting, handed to the checker as document 01 says: none where
-/// the unfolding is refused.
+/// The unfolding's own rewriting, handed to the checker with the given plan as start and the
+/// plan reached as claimed: none where the unfolding is refused.
 pub fn own_rewriting_case(case: &UnfoldCase) -> Option<CheckCase> {
     let unfolded = case.run();
     let claimed = unfolded.reached()?.to_vec();

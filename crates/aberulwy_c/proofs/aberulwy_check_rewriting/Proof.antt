@@ -1,6 +1,9 @@
--- `aberulwy_c::aberulwy_check_rewriting` meets its contract: the numbers are those of the call's report, and the lent bytes are those of the call.
+-- `aberulwy_c::aberulwy_check_rewriting` meets its contract: the numbers are those of the report of the call below, and the areas are as it leaves
+-- them.
 use borrow.Author.Needs.{needs}
-use Rattle.aberulwy_c.proofs.Answers.{answered, check-areas}
+use mathlib.Core.Path.{_∙_, ap}
+use Rattle.aberulwy_c.specs.Answers.{of-check}
+use Rattle.aberulwy_c.proofs.Answers.{returned-2}
 use Rattle.aberulwy_c.proofs.Seen.{check-seen}
 use Rattle.aberulwy_c.proofs.aberulwy_check_rewriting.Statement.{statement}
 use Rattle.aberulwy_c.proofs.aberulwy_check_rewriting.Tie as tie
@@ -20,7 +23,7 @@ same-length-2 c = search needs
 returns : tie.Need-returns
 returns c =
     let u = c .before .before .before .before .before .before .before .before .check-rewriting .ensures in
-    (answered (u .1 .0) (c .hand-checked .ensures), (check-areas (u .0), check-seen _ _ _ _ _ _ (u .0) (u .1 .1) (c .hand-checked .ensures)))
+    (returned-2 _ (c .hand-checked .ensures) ∙ ap of-check (u .0), check-seen _ _ _ _ _ _ (u .0) (u .1 .1) (c .hand-checked .ensures))
 
 pub aberulwy-check-rewriting-spec : {M : Type 1} → statement M
 aberulwy-check-rewriting-spec =

@@ -2,7 +2,7 @@
 use mathlib.Core.Path.{refl}
 use Rattle.aberulwy.specs.Judging.{orders-report}
 use borrow.Author.Needs.{needs}
-use Rattle.aberulwy_c.proofs.Answers.{said, refused}
+use Rattle.aberulwy_c.proofs.Answers.{said, refused, returned-1}
 use Rattle.aberulwy_c.proofs.aberulwy_count_orders.Statement.{statement}
 use Rattle.aberulwy_c.proofs.aberulwy_count_orders.Tie as tie
 
@@ -19,10 +19,12 @@ refuse-requires : tie.Need-refuse-requires
 refuse-requires c κs = search needs
 
 returns : tie.Need-returns
-returns c = said orders-report _ (c .before .k .given .1) (c .before .before .before .count-orders .ensures .1)
+returns c = returned-1 _ (said orders-report _ (c .before .k .given .1) (c .before .before .before .count-orders .ensures .1))
 
 returns-2 : tie.Need-returns-2
-returns-2 c = refused orders-report (c .before .before .before .refusal .given .0 .0) (c .before .before .before .refusal .given .1) (c .before .before .before .before .before .count-orders .ensures .1) refl (c .refuse .ensures)
+returns-2 c =
+    let k = c .before .before .before in
+    returned-1 _ (refused orders-report (k .refusal .given .0 .0) (k .refusal .given .1) (k .before .before .count-orders .ensures .1) refl (c .refuse .ensures))
 
 pub aberulwy-count-orders-spec : {M : Type 1} → statement M
 aberulwy-count-orders-spec =

@@ -1,8 +1,10 @@
--- `aberulwy_c::aberulwy_read_station` meets its contract: in each arm the call's answer is known, and so its report, and the lent bytes are those of the call.
-use mathlib.Core.Path.{refl}
+-- `aberulwy_c::aberulwy_read_station` meets its contract: in each arm the call's answer is known, and so its report, and the areas are as
+-- the call below leaves them.
+use mathlib.Core.Path.{refl, _∙_, ap}
+use Rattle.aberulwy_c.specs.Answers.{of-station}
 use Rattle.stations.specs.File.{station-report}
 use borrow.Author.Needs.{needs}
-use Rattle.aberulwy_c.proofs.Answers.{said, refused, station-areas}
+use Rattle.aberulwy_c.proofs.Answers.{said, refused, returned-1}
 use Rattle.aberulwy_c.proofs.aberulwy_read_station.Statement.{statement}
 use Rattle.aberulwy_c.proofs.aberulwy_read_station.Tie as tie
 
@@ -25,7 +27,9 @@ same-length-2 : tie.Need-same-length-2
 same-length-2 c = search needs
 
 returns : tie.Need-returns
-returns c = (said station-report _ (c .before .read .given .1) (c .before .before .before .before .before .before .before .read-station .ensures .1), station-areas (c .before .before .before .before .before .before .before .read-station .ensures .0))
+returns c =
+    let u = c .before .before .before .before .before .before .before .read-station .ensures in
+    returned-1 _ (said station-report _ (c .before .read .given .1) refl) ∙ ap of-station (u .0)
 
 same-length-3 : tie.Need-same-length-3
 same-length-3 c = search needs
@@ -34,7 +38,10 @@ same-length-4 : tie.Need-same-length-4
 same-length-4 c = search needs
 
 returns-2 : tie.Need-returns-2
-returns-2 c = (refused station-report (c .before .before .before .refusal .given .0 .0) (c .before .before .before .refusal .given .1) (c .before .before .before .before .before .before .before .before .before .read-station .ensures .1) refl (c .refuse .ensures), station-areas (c .before .before .before .before .before .before .before .before .before .read-station .ensures .0))
+returns-2 c =
+    let u = c .before .before .before .before .before .before .before .before .before .read-station .ensures in
+    let k = c .before .before .before in
+    returned-1 _ (refused station-report (k .refusal .given .0 .0) (k .refusal .given .1) refl refl (c .refuse .ensures)) ∙ ap of-station (u .0)
 
 pub aberulwy-read-station-spec : {M : Type 1} → statement M
 aberulwy-read-station-spec =

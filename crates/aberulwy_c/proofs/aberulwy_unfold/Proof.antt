@@ -1,6 +1,8 @@
--- `aberulwy_c::aberulwy_unfold` meets its contract: the numbers are those of the call's report, and the lent bytes are those of the call.
+-- `aberulwy_c::aberulwy_unfold` meets its contract: the numbers are those of the report of the call below, and the lent bytes are as it leaves them.
 use borrow.Author.Needs.{needs}
-use Rattle.aberulwy_c.proofs.Answers.{answered, unfold-areas}
+use mathlib.Core.Path.{_∙_, ap}
+use Rattle.aberulwy_c.specs.Answers.{of-unfold}
+use Rattle.aberulwy_c.proofs.Answers.{returned-2}
 use Rattle.aberulwy_c.proofs.Seen.{unfold-seen}
 use Rattle.aberulwy_c.proofs.aberulwy_unfold.Statement.{statement}
 use Rattle.aberulwy_c.proofs.aberulwy_unfold.Tie as tie
@@ -23,7 +25,7 @@ same-length-3 c = search needs
 returns : tie.Need-returns
 returns c =
     let u = c .before .before .before .before .before .before .before .before .before .before .«unfold» .ensures in
-    (answered (u .1 .0) (c .hand-unfolded .ensures), (unfold-areas (u .0), unfold-seen _ _ _ _ _ _ (u .0) (u .1 .1) (c .hand-unfolded .ensures)))
+    (returned-2 _ (c .hand-unfolded .ensures) ∙ ap of-unfold (u .0), unfold-seen _ _ _ _ _ _ (u .0) (u .1 .1) (c .hand-unfolded .ensures))
 
 pub aberulwy-unfold-spec : {M : Type 1} → statement M
 aberulwy-unfold-spec =

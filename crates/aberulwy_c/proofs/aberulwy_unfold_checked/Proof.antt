@@ -1,6 +1,7 @@
--- `aberulwy_c::aberulwy_unfold_checked` meets its contract: the numbers are those of both reports, and the lent bytes are those of the call.
+-- `aberulwy_c::aberulwy_unfold_checked` meets its contract: the numbers are those of both reports, and the lent bytes are as the call below
+-- leaves them.
 use borrow.Author.Needs.{needs}
-use Rattle.aberulwy_c.proofs.Answers.{answered, maybe-answered, both-areas}
+use Rattle.aberulwy_c.proofs.Answers.{returned-both}
 use Rattle.aberulwy_c.proofs.Seen.{both-seen}
 use Rattle.aberulwy_c.proofs.aberulwy_unfold_checked.Statement.{statement}
 use Rattle.aberulwy_c.proofs.aberulwy_unfold_checked.Tie as tie
@@ -32,11 +33,8 @@ same-length-5 c = search needs
 returns : tie.Need-returns
 returns c =
     let u = c .before .before .before .before .before .before .before .before .before .before .before .before .before .before .before .before .before .before .before .before .unfold-checked .ensures in (
-      answered (u .1 .0 .0) (c .hand-unfolded .ensures),
-      (
-        maybe-answered (u .1 .0 .1) (c .before .before .before .before .hand-own .ensures),
-        (both-areas (u .0), both-seen _ _ _ _ _ _ _ _ _ _ (u .0) (u .1 .1) (c .hand-unfolded .ensures) (c .before .before .before .before .hand-own .ensures)),
-      ),
+      returned-both (u .0) (c .hand-unfolded .ensures) (c .before .before .before .before .hand-own .ensures),
+      both-seen _ _ _ _ _ _ _ _ _ _ (u .0) (u .1 .1) (c .hand-unfolded .ensures) (c .before .before .before .before .hand-own .ensures),
     )
 
 pub aberulwy-unfold-checked-spec : {M : Type 1} → statement M
