@@ -10,7 +10,7 @@
 int main(void) {
     static uint8_t tables[2305], list[300], a[64], b[64];
     const uint8_t plan[] = {1, 2, 66};
-    /* The trial tables of document 01. */
+    /* The tables of the trial trays, as docs/FORMATS.md draws them. */
     tables[0] = 4;                                       /* four actions */
     tables[1 + 32 * 1 + 2] = tables[1 + 32 * 2 + 1] = 3; /* 1|2 = 2|1 = 3 */
     for (int i = 1; i <= 4; i++) tables[1025 + i] = 1;   /* dead stop is below every action */

@@ -62,9 +62,9 @@ uint8_t aberulwy_unfold_checked(const uint8_t *tables, size_t tables_len, const 
 uint8_t aberulwy_reached(const uint8_t *a, size_t a_len, const uint8_t *b, size_t b_len, size_t steps, size_t size, uint8_t *plan, size_t plan_len,
                          size_t *copied);
 
-/* Checks a rewriting from a start plan to a claimed end plan. Returns 0 where it is accepted, or 31 (a law does not fit), 32 (a plan too long) or 33
- * (another end) where it is turned back; *steps is then the count of steps made and *size that of the words of the plan reached. Or returns 1 to 8,
- * 11 to 18, which leave the areas as they are. The areas are left as by aberulwy_unfold. */
+/* Checks a rewriting from a start plan to a claimed end plan. Returns 0 where it is accepted, or 31 (a law does not fit, or its place is past the
+ * end), 32 (a plan too long) or 33 (another end) where it is turned back; *steps is then the count of steps made and *size that of the words of the
+ * plan reached. Or returns 1 to 8, 11 to 18, which leave the areas as they are. The areas are left as by aberulwy_unfold. */
 uint8_t aberulwy_check_rewriting(const uint8_t *tables, size_t tables_len, const uint8_t *start, size_t start_len, const uint8_t *claimed,
                                  size_t claimed_len, const uint8_t *rewriting, size_t rewriting_len, uint8_t *a, size_t a_len, uint8_t *b,
                                  size_t b_len, size_t *steps, size_t *size, size_t *place);

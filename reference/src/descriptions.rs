@@ -20,6 +20,9 @@
 //! being dead stop. `#` begins a comment, and lines without anything else are passed over. Blanks
 //! are free, and a plan's words stand apart. Where two lines tell an entry, the later one holds.
 //!
+//! `A < B` tells this pair alone: the order is not closed by itself. With `1 < 2` and `2 < 3` the
+//! line `1 < 3` must stand there too; without it the file is refused with 8.
+//!
 //! A word of a plan is a number, 0 to 255, or a sign:
 //!
 //! | word | sign | or | |
@@ -224,7 +227,7 @@ fn action(text: &str) -> Result<u8, String> {
 }
 
 /// A word of a plan, or what was expected.
-fn word(text: &str) -> Result<u8, String> {
+pub(crate) fn word(text: &str) -> Result<u8, String> {
     let sign = SIGNS.iter().find(|(sign, _)| *sign == text);
     sign.map(|&(_, word)| word)
         .or_else(|| encapsulation(text))

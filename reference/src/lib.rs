@@ -5,17 +5,20 @@
 //! by the shortest rendering of the sentence that asks for it, so that another
 //! implementation can be compared with it byte for byte. Each item quotes the
 //! sentence that it renders. `docs/FORMATS.md` and `docs/NUMBERS.md` tell the
-//! bytes and the numbers. [`descriptions`] and [`random`] are this folder's own.
+//! bytes and the numbers. [`descriptions`], [`reading`] and [`random`] are this
+//! folder's own.
 
 #![forbid(unsafe_code)]
 #![warn(missing_docs)]
 
 pub mod checking;
 pub mod descriptions;
+pub mod filter;
 pub mod laws;
 pub mod own;
 pub mod plans;
 pub mod random;
+pub mod reading;
 pub mod refusals;
 pub mod runs;
 pub mod stations;

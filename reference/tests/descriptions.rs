@@ -1,10 +1,11 @@
 //! Station files from descriptions, by the module and by the program `station`.
 
+mod programs;
+
 use reference::descriptions::{station, MOST_WORDS};
 use reference::stations::{program, read_station, BLOCK};
 use reference::tables::TABLES_LENGTH;
-use std::io::Write;
-use std::process::{Command, Output, Stdio};
+use std::process::Output;
 
 const TRAY_1: &str = "
 # The first trial tray.
@@ -16,19 +17,7 @@ plan 1 2 66
 ";
 
 /// The bench with a hasty hub and a crusted coin.
-const CRUSTED_COIN: &str = "
-actions 13
-1 | 2 = 3         # weight: offered, awaited, seen
-4 | 5 = 6         # photograph by the first camera
-7 | 8 = 9         # photograph by the second camera
-10 | 11 = 12      # turn
-12 < 3            # a weight that is there goes before a turn
-set 0 = 4 5
-set 1 = 7 8
-set 2 = 10 11
-set 3 = 1 2
-plan 2 5 11 8 · · ‖  4 ‖ ∂0  7 ‖ ∂1  10 ‖ ∂2  13 1 · ‖ ∂3  θ
-";
+const CRUSTED_COIN: &str = include_str!("../../examples/bench/crusted-coin.description");
 
 /// The plan of a described station file.
 fn plan(words: &str) -> Vec<u8> {
@@ -43,14 +32,7 @@ fn complaint(text: &str) -> String {
 
 /// Runs the program on a text.
 fn run(text: &[u8]) -> Output {
-    let mut child = Command::new(env!("CARGO_BIN_EXE_station"))
-        .stdin(Stdio::piped())
-        .stdout(Stdio::piped())
-        .stderr(Stdio::piped())
-        .spawn()
-        .unwrap();
-    child.stdin.take().unwrap().write_all(text).unwrap();
-    child.wait_with_output().unwrap()
+    programs::run(env!("CARGO_BIN_EXE_station"), text)
 }
 
 #[test]
@@ -99,6 +81,14 @@ fn nothing_else_is_judged() {
     assert_eq!(listed("actions 4\nplan 5"), "refused 12 0\n");
     assert_eq!(listed("actions 4\nset 0 = 0\nplan 1"), "refused 3 2049\n");
     assert_eq!(listed("actions 4\n1 < 1\nplan 1"), "refused 8 1024\n");
+}
+
+#[test]
+fn an_order_is_not_closed_by_itself() {
+    let listed = |lines: &str| program(&station(&format!("actions 3\n{lines}\nplan 1")).unwrap());
+    assert_eq!(listed("1 < 2\n2 < 3"), "refused 8 1091\n");
+    let closed = "end 0 steps 0 size 1 orders 1\n1\n";
+    assert_eq!(listed("1 < 2\n2 < 3\n1 < 3"), closed);
 }
 
 #[test]

@@ -18,7 +18,7 @@ fn main() {
     let archive = folder.join("libaberulwy_c.a");
     if !archive.is_file() {
         println!(
-            "cargo::warning=no {}: run `rt staticlib aberulwy_c` in the repository's root, or set {FOLDER_VARIABLE}",
+            "cargo::warning=no {}: run `rt staticlib aberulwy_c` in the repository's root, or set {FOLDER_VARIABLE} to the archive's folder, an absolute path",
             archive.display()
         );
     }

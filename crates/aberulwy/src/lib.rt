@@ -1,6 +1,10 @@
 // Aberulwy: the public calls. Each takes slices of any length and asks nothing of its caller. Under each call, `whole` says its answer,
-// refusals included, and every lent byte at exit; where the answer is one of document 01's, `numbers` says it in that paper's numbers; further
+// refusals included, and every lent byte at exit; where the answer has a number in docs/NUMBERS.md, `numbers` says it by that number; further
 // clauses say what is claimed of it.
+//
+// How a contract reads: `ensures NAME { λ r. ⌜ … ⌝ }` is proved of whatever `r` the call returns. `now (x .entry)` is what a lent slice `x` holds,
+// as a list of numbers, when the call begins, and `now (x .exit)` when it ends; a number's name is its value. `≡` is equality, `×` is "and", and
+// `↔` is "exactly when". `ghost use` brings in the definitions that contracts cite: those of `Rattle.NAME.specs` stand in crates/NAME/specs.
 use checking::Checked;
 use refusals::Judgement;
 use refusals::Refusal;

@@ -1,10 +1,9 @@
 -- What the calls for C and Rust answer and leave: a number, out numbers, and lent areas. (01, "Turned back by what was handed in".)
 use Prim.Native.Nat.{ℕ, zero, suc}
-use mathlib.Core.Path.{_≡_}
 use mathlib.Core.Bool.{Bool, true, false}
 use mathlib.Core.List.{List, [], _∷_, _++_}
 use mathlib.Core.Option.{Option, none, some}
-use lib.ListN.{length, getD}
+use lib.ListN.{length}
 use lib.Dec.{leb}
 use Rattle.areas.specs.Area.{padded}
 use Rattle.refusals.specs.Refusal.{Report}

@@ -13,7 +13,8 @@ use Rattle.redexes.specs.declared.Redex.{Redex}
 -- an operand: the word at its root and the entries under it; for an action the word is 0, and the action stands for the entries
 unfoldable pub operand-of : Graph → ℕ → Operand
 operand-of g v =
-    cond (ltb v 256) (record { sign = 0; first = v; second = v }) (record { sign = getD (g .own) v 0; first = getD (g .first) v 0; second = getD (g .second) v 0 })
+    cond (ltb v 256) (record { sign = 0; first = v; second = v })
+    (record { sign = getD (g .own) v 0; first = getD (g .first) v 0; second = getD (g .second) v 0 })
 
 -- what is under a word 0 is a word
 abbrev pub Small : Operand → Type 0

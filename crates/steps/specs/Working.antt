@@ -57,7 +57,8 @@ pub data PutIn (t : Tables) (law c : ℕ) (left starts right old f g right′ ol
       → right′ ≡ overwrite right (s .rest - length (side-here t law left f g s)) (side-here t law left f g s)
       → take (s .read - start-here starts s) old′ ≡ take (s .read - start-here starts s) (drop (start-here starts s) left)
       → PutIn t law c left starts right old f g right′ old′ s
-      (Step (stepped s (start-here starts s) (s .read - start-here starts s) (length (side-here t law left f g s)) (s .rest - length (side-here t law left f g s))))
+      (Step (stepped s (start-here starts s) (s .read - start-here starts s) (length (side-here t law left f g s))
+      (s .rest - length (side-here t law left f g s))))
 
 -- one step of a rewriting: law k at place p is made, or does not fit, or gives too long a plan
 pub data StepOf (t : Tables) (k p c : ℕ) (left starts right old left′ starts′ right′ old′ : List ℕ) (s : State) : Attempt → Type 0 where

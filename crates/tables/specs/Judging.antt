@@ -9,7 +9,8 @@ use Rattle.refusals.specs.declared.Place.the-variants.{Nowhere, Byte, Triple}
 use Rattle.refusals.specs.declared.Refusal.{Refusal}
 use Rattle.refusals.specs.Refusal.{refuse, or-else}
 use Rattle.tables.specs.Search.{first-from, unless-met}
-use Rattle.tables.specs.Tables.{Tables, tables-length, most-actions, row-length, set-count, communication-at, priority-at, sets-at, entry-of, marked, actions, communication}
+use Rattle.tables.specs.Tables.{Tables, tables-length, most-actions, row-length, set-count, communication-at, priority-at, sets-at}
+use Rattle.tables.specs.Tables.{entry-of, marked, actions, communication}
 
 -- Conditions
 

@@ -28,6 +28,18 @@ pub struct Checked {
 
 impl Checked {
     /// Whether the rewriting was accepted.
+    ///
+    /// ```
+    /// let tables = aberulwy::examples::trial_tables();
+    /// let (mut a, mut b) = ([0; 8], [0; 8]);
+    /// // Law 4 at place 2: x+x to x.
+    /// let (start, rewriting) = ([1, 1, 64], [4, 2, 0]);
+    /// let mut check =
+    ///     |claimed| aberulwy::check_rewriting(&tables, &start, claimed, &rewriting, &mut a, &mut b);
+    /// assert!(check(&[1])?.accepted());
+    /// assert!(!check(&[2])?.accepted());
+    /// # Ok::<(), aberulwy::Refusal>(())
+    /// ```
     pub fn accepted(&self) -> bool {
         self.verdict == Verdict::Accepted
     }
@@ -38,6 +50,21 @@ impl Checked {
     /// # Panics
     ///
     /// If they are shorter than those.
+    ///
+    /// ```
+    /// use aberulwy::{check_rewriting, Verdict};
+    ///
+    /// let tables = aberulwy::examples::trial_tables();
+    /// let (mut a, mut b) = ([0; 8], [0; 8]);
+    /// // Law 1 at place 2, then law 4 there, which does not fit: one step is made.
+    /// let (start, rewriting) = ([1, 2, 64], [1, 2, 0, 4, 2, 0]);
+    /// let checked = check_rewriting(&tables, &start, &[1], &rewriting, &mut a, &mut b)?;
+    /// assert_eq!((checked.verdict, checked.steps), (Verdict::DoesNotFit, 1));
+    /// assert_eq!(checked.reached(&a, &b), [2, 1, 64]);
+    /// // After one step that is the beginning of B; A has the plan one step before.
+    /// assert_eq!((&b[..3], &a[..3]), (&[2, 1, 64][..], &start[..]));
+    /// # Ok::<(), aberulwy::Refusal>(())
+    /// ```
     pub fn reached<'t>(&self, a: &'t [u8], b: &'t [u8]) -> &'t [u8] {
         reached(self.steps, self.size, a, b)
     }
@@ -67,6 +94,9 @@ impl Checked {
 /// // Law 4 asks for two equal operands.
 /// let checked = check_rewriting(&tables, &start, &claimed, &[4, 2, 0], &mut a, &mut b)?;
 /// assert_eq!((checked.verdict, checked.steps), (Verdict::DoesNotFit, 0));
+/// // Records have three bytes.
+/// let refused = check_rewriting(&tables, &start, &claimed, &[1, 2], &mut a, &mut b);
+/// assert_eq!(refused.unwrap_err().number(), 16);
 /// # Ok::<(), aberulwy::Refusal>(())
 /// ```
 pub fn check_rewriting(

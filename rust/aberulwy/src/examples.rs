@@ -2,11 +2,14 @@
 
 use crate::TABLES_LENGTH;
 
-/// The tables of document 01's trial trays: four actions, 1 and 2 communicate to 3, dead stop
-/// is below all, 1 is below 4, and set 0 blocks 1 and 2.
+/// The tables of the trial trays (`examples/trays`): four actions, 1 and 2 communicate to 3,
+/// dead stop is below all, 1 is below 4, and set 0 blocks 1 and 2.
 ///
 /// ```
-/// assert_eq!(aberulwy::judge_tables(&aberulwy::examples::trial_tables()), Ok(()));
+/// let tables = aberulwy::examples::trial_tables();
+/// assert_eq!(aberulwy::judge_tables(&tables), Ok(()));
+/// assert_eq!(tables[0], 4);
+/// assert_eq!(tables[1 + 32 * 1 + 2], 3);
 /// ```
 pub fn trial_tables() -> [u8; TABLES_LENGTH] {
     let mut tables = [0; TABLES_LENGTH];

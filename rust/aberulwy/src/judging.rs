@@ -44,7 +44,7 @@ pub fn judge_plan(tables: &[u8], plan: &[u8]) -> Result<(), Refusal> {
 }
 
 /// Whether a plan is basic: dead stop, or a sum of actions and of actions followed by basic
-/// plans. None of laws 5 to 32 fits anywhere in a basic plan, and in no other.
+/// plans. In a basic plan none of laws 5 to 32 fits anywhere; in any other plan one does.
 ///
 /// # Errors
 ///
@@ -56,12 +56,14 @@ pub fn judge_plan(tables: &[u8], plan: &[u8]) -> Result<(), Refusal> {
 /// let tables = aberulwy::examples::trial_tables();
 /// assert_eq!(is_basic(&tables, &[1, 2, 65]), Ok(true));
 /// assert_eq!(is_basic(&tables, &[1, 2, 66]), Ok(false));
+/// // These tables have four actions, so 5 is no word.
+/// assert_eq!(is_basic(&tables, &[5]).unwrap_err().number(), 12);
 /// ```
 pub fn is_basic(tables: &[u8], plan: &[u8]) -> Result<bool, Refusal> {
     counted(raw::is_basic(tables, plan)).map(|basic| basic == 1)
 }
 
-/// How many orders a basic plan allows: dead stop and an action count 1, a product counts
+/// How many orders a basic plan allows: dead stop and an action count 1, a sequence counts
 /// what follows, a sum adds. A plan that is not basic has 0.
 ///
 /// # Errors
@@ -74,6 +76,7 @@ pub fn is_basic(tables: &[u8], plan: &[u8]) -> Result<bool, Refusal> {
 /// let tables = aberulwy::examples::trial_tables();
 /// assert_eq!(count_orders(&tables, &[1, 2, 65, 2, 1, 65, 64, 3, 64]), Ok(3));
 /// assert_eq!(count_orders(&tables, &[1, 2, 66]), Ok(0));
+/// assert_eq!(count_orders(&tables, &[]).unwrap_err().number(), 11);
 /// ```
 pub fn count_orders(tables: &[u8], plan: &[u8]) -> Result<usize, Refusal> {
     counted(raw::count_orders(tables, plan))

@@ -23,11 +23,18 @@
 //! # Ok::<(), aberulwy::Refusal>(())
 //! ```
 //!
-//! # Words
+//! # Tables and words
 //!
-//! 0 to n are actions, 0 being dead stop; 64 is choice, 65 product, 66 merge, 67 left merge,
+//! Byte 0 of tables is n, the count of actions, 1 to 31; action 0 is dead stop. Byte 1 + 32a + b
+//! is what a and b communicate to, byte 1025 + 32a + b is 1 where a is below b (b goes first), and
+//! byte 2049 + 32h + a is 1 where set h, 0 to 7, blocks a.
+//!
+//! The words of a plan: 0 to n are actions; 64 is choice, 65 sequence, 66 merge, 67 left merge,
 //! 68 communication merge, 69 unless, each of two operands; 70 is priority and 80 to 87 are
 //! encapsulation by set 0 to 7, each of one. Any other byte is no word.
+//!
+//! The repository's `docs/FORMATS.md` draws tables, plans, rewritings, areas and station files,
+//! and `docs/NUMBERS.md` lists the words, the laws, the endings and the refusals.
 //!
 //! # Stack
 //!
@@ -39,7 +46,8 @@
 //!
 //! The archive `libaberulwy_c.a` is written by `rt staticlib aberulwy_c` in the repository's
 //! root. It is found in `target/staticlib` there, or in the folder that `ABERULWY_ARCHIVE_DIR`
-//! names.
+//! names, an absolute path. `examples/unfold_station.rs` is a small program around these calls,
+//! and `rust/README.md` says what a program of one's own needs.
 
 #![deny(unsafe_code)]
 #![warn(missing_docs)]

@@ -1,5 +1,6 @@
-//! The exported calls with their answers as they come: a number of document 01 and every
-//! number that the call sets. The crate's other functions are these with named answers.
+//! The exported calls with their answers as they come: a number, as `docs/NUMBERS.md` lists
+//! them, and every number that the call sets. The crate's other functions are these with named
+//! answers.
 //!
 //! All of the crate's unsafe code is here. Each call hands over slices that Rust has
 //! borrowed, a slice as a pointer and a length. The archive's functions are proved for
@@ -197,6 +198,16 @@ mod archive {
 }
 
 /// Judges tables: 0, or 1 to 8.
+///
+/// ```
+/// use aberulwy::raw::{judge_tables, Judged};
+///
+/// let mut tables = aberulwy::examples::trial_tables();
+/// assert_eq!(judge_tables(&tables), Judged { number: 0, place: 0 });
+/// // 1|2 is not 2|1.
+/// tables[66] = 0;
+/// assert_eq!(judge_tables(&tables), Judged { number: 5, place: 35 });
+/// ```
 pub fn judge_tables(tables: &[u8]) -> Judged {
     let mut place = NOT_SET;
     // SAFETY: see the head of this file.
@@ -206,6 +217,14 @@ pub fn judge_tables(tables: &[u8]) -> Judged {
 }
 
 /// Judges tables, then a plan: 0, or 1 to 8, 11 to 14.
+///
+/// ```
+/// use aberulwy::raw::{judge_plan, Judged};
+///
+/// let tables = aberulwy::examples::trial_tables();
+/// assert_eq!(judge_plan(&tables, &[1, 2, 66]), Judged { number: 0, place: 0 });
+/// assert_eq!(judge_plan(&tables, &[1, 66]), Judged { number: 13, place: 1 });
+/// ```
 pub fn judge_plan(tables: &[u8], plan: &[u8]) -> Judged {
     let mut place = NOT_SET;
     // SAFETY: see the head of this file.
@@ -222,6 +241,15 @@ pub fn judge_plan(tables: &[u8], plan: &[u8]) -> Judged {
 }
 
 /// Whether a plan is basic (1) or not (0), after judging as [`judge_plan`] does.
+///
+/// ```
+/// use aberulwy::raw::{is_basic, Counted};
+///
+/// let tables = aberulwy::examples::trial_tables();
+/// assert_eq!(is_basic(&tables, &[1, 2, 65]), Counted { number: 0, value: 1, place: 0 });
+/// assert_eq!(is_basic(&tables, &[1, 2, 66]), Counted { number: 0, value: 0, place: 0 });
+/// assert_eq!(is_basic(&tables, &[1, 9, 66]), Counted { number: 12, value: 0, place: 1 });
+/// ```
 pub fn is_basic(tables: &[u8], plan: &[u8]) -> Counted {
     let (mut value, mut place) = (NOT_SET, NOT_SET);
     // SAFETY: see the head of this file.
@@ -243,6 +271,14 @@ pub fn is_basic(tables: &[u8], plan: &[u8]) -> Counted {
 }
 
 /// The orders of a plan, after judging as [`judge_plan`] does.
+///
+/// ```
+/// use aberulwy::raw::{count_orders, Counted};
+///
+/// let tables = aberulwy::examples::trial_tables();
+/// assert_eq!(count_orders(&tables, &[1, 2, 64]), Counted { number: 0, value: 2, place: 0 });
+/// assert_eq!(count_orders(&tables, &[1, 2]), Counted { number: 14, value: 0, place: 0 });
+/// ```
 pub fn count_orders(tables: &[u8], plan: &[u8]) -> Counted {
     let (mut value, mut place) = (NOT_SET, NOT_SET);
     // SAFETY: see the head of this file.
@@ -264,6 +300,17 @@ pub fn count_orders(tables: &[u8], plan: &[u8]) -> Counted {
 }
 
 /// Unfolds a plan: 0, or 34 to 36; or 1 to 8, 11 to 15 with every lent byte kept.
+///
+/// ```
+/// use aberulwy::raw::{unfold, Ended};
+///
+/// let tables = aberulwy::examples::trial_tables();
+/// let (mut list, mut a, mut b) = ([7; 12], [7; 12], [7; 12]);
+/// let mut run = |plan, allowance| unfold(&tables, plan, allowance, &mut list, &mut a, &mut b);
+/// assert_eq!(run(&[1, 2, 66], 4), Ended { number: 0, steps: 4, size: 9, place: 0 });
+/// assert_eq!(run(&[1, 2, 66], 3), Ended { number: 34, steps: 3, size: 11, place: 0 });
+/// assert_eq!(run(&[1, 2, 99], 3), Ended { number: 12, steps: 0, size: 0, place: 2 });
+/// ```
 pub fn unfold(
     tables: &[u8],
     plan: &[u8],
@@ -302,6 +349,22 @@ pub fn unfold(
 
 /// Unfolds a plan as [`unfold`] does in areas A and B, then checks the unfolding's own
 /// rewriting in two further areas, unless the unfolding was refused.
+///
+/// ```
+/// use aberulwy::raw::unfold_checked;
+///
+/// let tables = aberulwy::examples::trial_tables();
+/// let (mut list, mut a, mut b, mut c, mut d) = ([7; 12], [7; 12], [7; 12], [9; 12], [9; 12]);
+/// let (areas, check_areas) = ([&mut a[..], &mut b[..]], [&mut c[..], &mut d[..]]);
+/// let both = unfold_checked(&tables, &[1, 2, 66], 9, &mut list, areas, check_areas);
+/// assert_eq!((both.unfolded.number, both.unfolded.steps, both.unfolded.size), (0, 4, 9));
+/// assert_eq!((both.checked, both.own_number, both.own_steps, both.own_size), (1, 0, 4, 9));
+/// assert_eq!((a, b), (c, d));
+///
+/// let (areas, check_areas) = ([&mut a[..], &mut b[..]], [&mut c[..], &mut d[..]]);
+/// let refused = unfold_checked(&tables, &[], 9, &mut list, areas, check_areas);
+/// assert_eq!((refused.unfolded.number, refused.checked), (11, 0));
+/// ```
 pub fn unfold_checked(
     tables: &[u8],
     plan: &[u8],
@@ -358,6 +421,15 @@ pub fn unfold_checked(
 
 /// Copies the plan reached out of area A or B, zeros behind: 0; or 1 with every lent byte
 /// kept, where the plan area is too short.
+///
+/// ```
+/// use aberulwy::raw::{reached, Handed};
+///
+/// let (a, b, mut plan) = ([1, 2, 64], [3, 0, 0], [7; 4]);
+/// assert_eq!(reached(&a, &b, 2, 3, &mut plan), Handed { number: 0, size: 3 });
+/// assert_eq!(plan, [1, 2, 64, 0]);
+/// assert_eq!(reached(&a, &b, 2, 3, &mut plan[..2]), Handed { number: 1, size: 0 });
+/// ```
 pub fn reached(a: &[u8], b: &[u8], steps: usize, size: usize, plan_area: &mut [u8]) -> Handed {
     let mut copied = NOT_SET;
     // SAFETY: see the head of this file.
@@ -381,6 +453,18 @@ pub fn reached(a: &[u8], b: &[u8], steps: usize, size: usize, plan_area: &mut [u
 }
 
 /// Checks a rewriting: 0, or 31 to 33; or 1 to 8, 11 to 18 with every lent byte kept.
+///
+/// ```
+/// use aberulwy::raw::{check_rewriting, Ended};
+///
+/// let tables = aberulwy::examples::trial_tables();
+/// let (start, mut a, mut b) = ([1, 2, 64], [7; 3], [7; 3]);
+/// let mut check =
+///     |rewriting| check_rewriting(&tables, &start, &[2, 1, 64], rewriting, &mut a, &mut b);
+/// assert_eq!(check(&[1, 2, 0]), Ended { number: 0, steps: 1, size: 3, place: 0 });
+/// assert_eq!(check(&[]), Ended { number: 33, steps: 0, size: 3, place: 0 });
+/// assert_eq!(check(&[1, 2, 0, 33, 0, 0]), Ended { number: 17, steps: 0, size: 0, place: 1 });
+/// ```
 pub fn check_rewriting(
     tables: &[u8],
     start: &[u8],
@@ -420,6 +504,18 @@ pub fn check_rewriting(
 
 /// Reads a station file, and answers the plan's length: 0; or 51 to 55, 1 to 8, 11 to 14
 /// with every lent byte kept.
+///
+/// ```
+/// use aberulwy::raw::{read_station, Counted};
+///
+/// let file = include_bytes!("../../../examples/trays/tray-1.station");
+/// let (mut tables, mut plan) = ([7; 2305], [7; 3]);
+/// let read = read_station(file, &mut tables, &mut plan);
+/// assert_eq!(read, Counted { number: 0, value: 3, place: 0 });
+/// assert_eq!(plan, [1, 2, 66]);
+/// let refused = read_station(&file[1..], &mut tables, &mut plan);
+/// assert_eq!(refused, Counted { number: 51, value: 0, place: 0 });
+/// ```
 pub fn read_station(file: &[u8], tables_area: &mut [u8], plan_area: &mut [u8]) -> Counted {
     let (mut value, mut place) = (NOT_SET, NOT_SET);
     // SAFETY: see the head of this file.
@@ -444,6 +540,15 @@ pub fn read_station(file: &[u8], tables_area: &mut [u8], plan_area: &mut [u8]) -
 
 /// Lists a station file, zeros behind: 0; or 1 with every lent byte kept, where the area is
 /// too short.
+///
+/// ```
+/// use aberulwy::raw::{list_station, Handed};
+///
+/// let mut out = [7; 14];
+/// assert_eq!(list_station(b"", &mut out), Handed { number: 0, size: 13 });
+/// assert_eq!(&out, b"refused 51 0\n\0");
+/// assert_eq!(list_station(b"", &mut out[..12]), Handed { number: 1, size: 0 });
+/// ```
 pub fn list_station(file: &[u8], out: &mut [u8]) -> Handed {
     let mut size = NOT_SET;
     // SAFETY: see the head of this file.

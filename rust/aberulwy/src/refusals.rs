@@ -3,7 +3,7 @@
 use std::error::Error;
 use std::fmt;
 
-/// Why something handed in was turned back: document 01's number, and where.
+/// Why something handed in was turned back: a number, as `docs/NUMBERS.md` lists them, and where.
 ///
 /// ```
 /// let refusal = aberulwy::judge_tables(&[]).unwrap_err();
@@ -35,18 +35,57 @@ impl Refusal {
         Refusal { number, printed }
     }
 
-    /// The number under which document 01 lists the refusal.
+    /// The refusal's number, as `docs/NUMBERS.md` lists them.
+    ///
+    /// ```
+    /// // These tables have four actions, so 5 is no word.
+    /// let tables = aberulwy::examples::trial_tables();
+    /// let refusal = aberulwy::judge_plan(&tables, &[1, 5, 64]).unwrap_err();
+    /// assert_eq!(refusal.number(), 12);
+    /// ```
     pub fn number(self) -> u8 {
         self.number
     }
 
     /// The place as one number, as the program prints it: a triple as 1,024a + 32b + c, and
     /// 0 where none is named.
+    ///
+    /// ```
+    /// let mut tables = aberulwy::examples::trial_tables();
+    /// // 4 is below 1, and 1 below 4: the first triple at which the order fails is 1, 4, 0.
+    /// tables[1025 + 32 * 4 + 1] = 1;
+    /// let refusal = aberulwy::judge_tables(&tables).unwrap_err();
+    /// assert_eq!((refusal.number(), refusal.printed()), (8, 1024 + 32 * 4));
+    /// // Refusal 1 names no place.
+    /// let refusal = aberulwy::judge_tables(&[]).unwrap_err();
+    /// assert_eq!((refusal.number(), refusal.printed()), (1, 0));
+    /// ```
     pub fn printed(self) -> usize {
         self.printed
     }
 
-    /// The place.
+    /// The place: what the printed number says under this refusal's number.
+    ///
+    /// ```
+    /// use aberulwy::{check_rewriting, judge_plan, judge_tables, Place};
+    ///
+    /// let mut tables = aberulwy::examples::trial_tables();
+    /// let place = |plan: &[u8]| judge_plan(&tables, plan).unwrap_err().place();
+    /// // 66 takes two operands.
+    /// assert_eq!(place(&[1, 66]), Place::Byte(1));
+    /// // Two plans are left over.
+    /// assert_eq!(place(&[1, 2]), Place::Nowhere);
+    ///
+    /// // The second record names law 33.
+    /// let rewriting = [1, 2, 0, 33, 2, 0];
+    /// let (start, mut a, mut b) = ([1, 2, 64], [0; 8], [0; 8]);
+    /// let checked = check_rewriting(&tables, &start, &start, &rewriting, &mut a, &mut b);
+    /// assert_eq!(checked.unwrap_err().place(), Place::Step(1));
+    ///
+    /// // 4 is below 1, and 1 below 4.
+    /// tables[1025 + 32 * 4 + 1] = 1;
+    /// assert_eq!(judge_tables(&tables).unwrap_err().place(), Place::Triple(1, 4, 0));
+    /// ```
     pub fn place(self) -> Place {
         match self.number {
             3 | 4 | 5 | 7 | 12 | 13 => Place::Byte(self.printed),
@@ -61,6 +100,13 @@ impl Refusal {
     }
 
     /// The reason in words.
+    ///
+    /// ```
+    /// let tables = aberulwy::examples::trial_tables();
+    /// let refusal = aberulwy::judge_plan(&tables, &[1, 2]).unwrap_err();
+    /// assert_eq!(refusal.number(), 14);
+    /// assert_eq!(refusal.reason(), "more than one plan is left over");
+    /// ```
     pub fn reason(self) -> &'static str {
         match self.number {
             1 => "the tables are not 2,305 bytes",

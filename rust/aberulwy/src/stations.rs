@@ -3,8 +3,8 @@
 use crate::judging::counted;
 use crate::{raw, Refusal};
 
-/// Reads a station file: its tables go to one area, its plan to the other, zeros behind.
-/// Answers the plan's length.
+/// Reads a station file, as `docs/FORMATS.md` draws it: its tables go to one area, its plan to
+/// the other, zeros behind. Answers the plan's length.
 ///
 /// # Errors
 ///
@@ -12,9 +12,24 @@ use crate::{raw, Refusal};
 /// shorter than the plan; then 1 to 8 and 11 to 14. The areas then keep their bytes.
 ///
 /// ```
-/// let (mut tables, mut plan) = ([0; aberulwy::TABLES_LENGTH], [0; 8192]);
-/// let refusal = aberulwy::read_station(b"", &mut tables, &mut plan).unwrap_err();
-/// assert_eq!(refusal.number(), 51);
+/// use aberulwy::{read_station, TABLES_LENGTH};
+///
+/// let file = include_bytes!("../../../examples/trays/tray-1.station");
+/// let (mut tables, mut plan) = ([7; TABLES_LENGTH], [7; 8]);
+/// let size = read_station(file, &mut tables, &mut plan)?;
+/// assert_eq!(tables, aberulwy::examples::trial_tables());
+/// assert_eq!(plan[..size], [1, 2, 66]);
+/// assert_eq!(plan[size..], [0; 5]);
+///
+/// // A byte changed: the block's sum is wrong.
+/// let mut changed = *file;
+/// changed[6] = 5;
+/// let refusal = read_station(&changed, &mut tables, &mut plan).unwrap_err();
+/// assert_eq!(refusal.number(), 52);
+/// // An area that is too small for the plan.
+/// let refusal = read_station(file, &mut tables, &mut plan[..2]).unwrap_err();
+/// assert_eq!(refusal.number(), 55);
+/// # Ok::<(), aberulwy::Refusal>(())
 /// ```
 pub fn read_station(
     file: &[u8],
@@ -29,10 +44,23 @@ pub fn read_station(
 /// its bytes; one of [`LONGEST_LISTING`](crate::LONGEST_LISTING) bytes never is.
 ///
 /// ```
+/// use aberulwy::{list_station, LONGEST_LISTING};
+///
+/// let file = include_bytes!("../../../examples/trays/tray-1.station");
+/// let mut out = vec![7; LONGEST_LISTING];
+/// let text = list_station(file, &mut out).expect("room for every listing");
+/// assert_eq!(
+///     std::str::from_utf8(text),
+///     Ok("end 0 steps 4 size 9 orders 3\n\
+///         1 2 65 2 1 65 64 3 64\n\
+///         11 2\n12 2\n12 5\n10 9\n")
+/// );
+///
+/// // A file that is refused has a listing too.
 /// let mut out = [7; 20];
-/// assert_eq!(aberulwy::list_station(b"", &mut out), Some(&b"refused 51 0\n"[..]));
+/// assert_eq!(list_station(b"", &mut out), Some(&b"refused 51 0\n"[..]));
 /// assert_eq!(out[13..], [0; 7]);
-/// assert_eq!(aberulwy::list_station(b"", &mut out[..12]), None);
+/// assert_eq!(list_station(b"", &mut out[..12]), None);
 /// ```
 pub fn list_station<'t>(file: &[u8], out: &'t mut [u8]) -> Option<&'t [u8]> {
     let handed = raw::list_station(file, out);

@@ -34,6 +34,19 @@ impl Unfolded {
     /// # Panics
     ///
     /// If they are shorter than those.
+    ///
+    /// ```
+    /// let tables = aberulwy::examples::trial_tables();
+    /// let (mut list, mut a, mut b) = ([0; 30], [0; 16], [0; 16]);
+    /// // Dead stop goes first: 0·1 to 0 by law 9, in one step.
+    /// let unfolded = aberulwy::unfold(&tables, &[0, 1, 65], 9, &mut list, &mut a, &mut b)?;
+    /// assert_eq!((unfolded.steps, unfolded.size), (1, 1));
+    /// assert_eq!(unfolded.reached(&a, &b), [0]);
+    /// // A basic plan takes no step, and stands in A.
+    /// let unfolded = aberulwy::unfold(&tables, &[1, 0, 65], 9, &mut list, &mut a, &mut b)?;
+    /// assert_eq!(unfolded.reached(&a, &b), &a[..3]);
+    /// # Ok::<(), aberulwy::Refusal>(())
+    /// ```
     pub fn reached<'t>(&self, a: &'t [u8], b: &'t [u8]) -> &'t [u8] {
         reached(self.steps, self.size, a, b)
     }
@@ -43,6 +56,23 @@ impl Unfolded {
     /// # Panics
     ///
     /// If the list is shorter than the one lent to the unfolding.
+    ///
+    /// ```
+    /// use aberulwy::{check_rewriting, unfold};
+    ///
+    /// let tables = aberulwy::examples::trial_tables();
+    /// let plan = [1, 2, 4, 65, 69];
+    /// let (mut list, mut a, mut b) = ([0; 30], [0; 16], [0; 16]);
+    /// let unfolded = unfold(&tables, &plan, 9, &mut list, &mut a, &mut b)?;
+    /// // Law 26 at place 4, then law 24 at place 2.
+    /// assert_eq!(unfolded.rewriting(&list), [26, 4, 0, 24, 2, 0]);
+    ///
+    /// // What the checker takes.
+    /// let (claimed, rewriting) = (unfolded.reached(&a, &b), unfolded.rewriting(&list));
+    /// let (mut c, mut d) = ([0; 16], [0; 16]);
+    /// assert!(check_rewriting(&tables, &plan, claimed, rewriting, &mut c, &mut d)?.accepted());
+    /// # Ok::<(), aberulwy::Refusal>(())
+    /// ```
     pub fn rewriting<'t>(&self, list: &'t [u8]) -> &'t [u8] {
         &list[..RECORD * self.steps]
     }
@@ -52,6 +82,16 @@ impl Unfolded {
     /// # Panics
     ///
     /// If the list is shorter than the one lent to the unfolding.
+    ///
+    /// ```
+    /// let tables = aberulwy::examples::trial_tables();
+    /// let (mut list, mut a, mut b) = ([0; 30], [0; 16], [0; 16]);
+    /// let unfolded = aberulwy::unfold(&tables, &[1, 2, 66], 2, &mut list, &mut a, &mut b)?;
+    /// // The allowance is two steps; the list has room for ten.
+    /// let steps: Vec<_> = unfolded.records(&list).collect();
+    /// assert_eq!(steps, [(11, 2), (12, 2)]);
+    /// # Ok::<(), aberulwy::Refusal>(())
+    /// ```
     pub fn records<'t>(&self, list: &'t [u8]) -> impl Iterator<Item = (u8, u16)> + 't {
         self.rewriting(list)
             .chunks_exact(RECORD)
@@ -85,6 +125,9 @@ impl Unfolded {
 ///
 /// let three = unfold(&tables, &plan, 3, &mut list, &mut a, &mut b)?;
 /// assert_eq!((three.ending, three.steps), (Ending::AllowanceSpent, 3));
+/// // Areas shorter than the plan.
+/// let refused = unfold(&tables, &plan, 3, &mut list, &mut a[..3], &mut b);
+/// assert_eq!(refused.unwrap_err().number(), 15);
 /// # Ok::<(), aberulwy::Refusal>(())
 /// ```
 pub fn unfold(
@@ -151,6 +194,11 @@ pub struct UnfoldedChecked {
 /// let areas = [&mut a[..], &mut b[..]];
 /// let both = unfold_checked(&tables, &plan, 9, &mut list, areas, [&mut c[..11], &mut d])?;
 /// assert_eq!(both.own?.verdict, Verdict::TooLong);
+///
+/// // No plan: nothing is unfolded or checked.
+/// let areas = [&mut a[..], &mut b[..]];
+/// let refused = unfold_checked(&tables, &[], 9, &mut list, areas, [&mut c, &mut d]);
+/// assert_eq!(refused.unwrap_err().number(), 11);
 /// # Ok::<(), aberulwy::Refusal>(())
 /// ```
 pub fn unfold_checked(

@@ -1,4 +1,4 @@
-//! Document 01's trial trays, through the safe calls.
+//! The trial trays, through the safe calls.
 
 use aberulwy::examples::trial_tables;
 use aberulwy::*;

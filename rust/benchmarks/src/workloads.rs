@@ -114,8 +114,8 @@ pub struct Merge {
     signs: &'static [u8],
 }
 
-/// The merges measured, over the tables of document 01's trial trays. Set 0 blocks 1 and 2,
-/// which communicate; 1 is below 4.
+/// The merges measured, over the tables of the trial trays. Set 0 blocks 1 and 2, which
+/// communicate; 1 is below 4.
 pub const MERGES: [Merge; 4] = [
     Merge {
         name: "x‖y",

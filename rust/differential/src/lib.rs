@@ -1,7 +1,7 @@
-//! Random cases run through two implementations of document 01, and compared: the number
+//! Random cases run through two implementations of the public calls, and compared: the number
 //! answered, the place, every other number, and every lent byte.
 //!
-//! An [`Implementation`] is whatever answers every [`Call`]. [`compare`] runs
+//! An [`Implementation`] is whatever answers every [`Call`]. [`compare()`] runs
 //! seeded cases until the first difference, which it makes smaller while it stays.
 
 #![forbid(unsafe_code)]

@@ -6,7 +6,7 @@ use reference::checking::{judge_handed_in, Answer};
 use reference::runs::room;
 use reference::unfolding::RECORD;
 
-/// Checks a rewriting; answers and lent bytes are those of document 01.
+/// Checks a rewriting; answers and lent bytes are those of the library.
 pub fn check_rewriting(
     tables: &[u8],
     start: &[u8],

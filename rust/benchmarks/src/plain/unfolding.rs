@@ -15,7 +15,7 @@ const FEW_WORDS: usize = 2048;
 const FEW_NODES: usize = 4096;
 const MOST_NODES: usize = 32768;
 
-/// Unfolds a plan; answers and lent bytes are those of document 01.
+/// Unfolds a plan; answers and lent bytes are those of the library.
 pub fn unfold(
     tables: &[u8],
     plan: &[u8],

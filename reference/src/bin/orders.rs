@@ -1,0 +1,11 @@
+//! Reads from standard input what the program `unfold` prints, or the words of a plan, and
+//! prints the plan in infix signs and its orders, one to a line. [`reference::reading`] tells the
+//! forms.
+
+use reference::filter::filter;
+use reference::reading::reading;
+use std::process::ExitCode;
+
+fn main() -> ExitCode {
+    filter(|text| reading(text).map(String::into_bytes))
+}
