@@ -10,8 +10,8 @@
  * may write to must not overlap anything else handed to it, and no pointer may be null, even where its length is 0.
  *
  * Stack: allow 640 KiB for aberulwy_list_station, 512 KiB for aberulwy_unfold and aberulwy_unfold_checked, 128 KiB for aberulwy_check_rewriting, and
- * 64 KiB for each other call. Measured in threads on x86-64 Linux, the first three need 486, 354 and 86 KiB, and the others at most 32. Nothing
- * is allocated.
+ * 64 KiB for each other call. Measured in threads on x86-64 Linux, aberulwy_list_station needs 486 KiB, aberulwy_unfold and
+ * aberulwy_unfold_checked 354, aberulwy_check_rewriting 86, and the others at most 32. Nothing is allocated.
  *
  * The archive is made by `rt staticlib aberulwy_c`: target/staticlib/libaberulwy_c.a.
  */
@@ -56,7 +56,7 @@ uint8_t aberulwy_unfold_checked(const uint8_t *tables, size_t tables_len, const 
                                 size_t d_len, size_t *steps, size_t *size, size_t *place, size_t *checked, size_t *own_number, size_t *own_steps,
                                 size_t *own_size, size_t *own_place);
 
-/* Copies the plan reached, after so many steps and of so many words, out of area a or b into another area. Returns 0, and then *copied is the
+/* Copies the plan reached, after `steps` steps and of `size` words, out of area a or b into another area. Returns 0, and then *copied is the
  * plan's length, and zeros stand behind it; or returns 1 where the area is too short for it: it then keeps its bytes, and *copied is 0. An area a or
  * b of fewer than size bytes is copied whole. */
 uint8_t aberulwy_reached(const uint8_t *a, size_t a_len, const uint8_t *b, size_t b_len, size_t steps, size_t size, uint8_t *plan, size_t plan_len,

@@ -4,7 +4,9 @@
 //
 // How a contract reads: `ensures NAME { λ r. ⌜ … ⌝ }` is proved of whatever `r` the call returns. `now (x .entry)` is what a lent slice `x` holds,
 // as a list of numbers, when the call begins, and `now (x .exit)` when it ends; a number's name is its value. `≡` is equality, `×` is "and", and
-// `↔` is "exactly when". `ghost use` brings in the definitions that contracts cite: those of `Rattle.NAME.specs` stand in crates/NAME/specs.
+// `↔` is "exactly when". `ghost use` brings in the definitions that contracts cite: those of `Rattle.NAME.specs` stand in crates/NAME/specs,
+// and those of this crate are `Rattle.aberulwy.specs`; `declared` holds the enums and structs of the code. `_≡_ {A = R} x y` is `x ≡ y`
+// between records of type R.
 use checking::Checked;
 use refusals::Judgement;
 use refusals::Refusal;
@@ -166,8 +168,8 @@ pub fn reached<'a>(a: &'a [u8], b: &'a [u8], steps: usize, size: usize) -> &'a [
     }
 }
 
-// Reads a station file into a tables area and a plan area: the plan's length, or refusals 51 to 55, then 1 to 14, which leave the areas as they
-// are.
+// Reads a station file into a tables area and a plan area: the plan's length, or refusals 51 to 55, then 1 to 8, 11 to 14, which leave the areas
+// as they are.
 pub fn read_station(file: &[u8], tables: &mut [u8], plan: &mut [u8]) -> StationRead
     ensures whole { λ r. ⌜ _≡_ {A = StationOutcome} (record { answer = r; tables = now (tables .exit); plan = now (plan .exit) })
         (station-outcome (now (file .entry)) (now (tables .entry)) (now (plan .entry))) ⌝ }
@@ -188,7 +190,7 @@ pub struct BothAnswers {
     pub own: OwnCheck,
 }
 
-// An unfolding's own rewriting: the first three bytes of its list for each step, or all of it where it has fewer.
+// An unfolding's own rewriting: the first 3 × steps bytes of its list, or all of it where it has fewer.
 fn own_records(list: &[u8], steps: usize) -> &[u8]
     ensures { λ r. ⌜ now r ≡ own-rewriting steps (now (list .entry)) ⌝ }
 {
@@ -220,8 +222,8 @@ fn check_own<'a>(
     checking::check_rewriting(tables, plan, claimed, rewriting, c, d)
 }
 
-// Unfolds a plan, then checks the unfolding's own rewriting in areas c and d. Where these are as long as a and b, the check accepts: that is
-// proved.
+// Unfolds a plan, then checks the unfolding's own rewriting in areas c and d. Where c is as long as a, and d as b, a check that is made accepts:
+// that is proved.
 pub fn unfold_checked(
     tables: &[u8],
     plan: &[u8],

@@ -217,7 +217,7 @@ pub extern "C" fn aberulwy_count_orders(
     }
 }
 
-// Unfolds a plan: 0 at its end, or 34 to 36, with the steps made and the length of the plan reached; or the number of the refusal and its place.
+// Unfolds a plan: 0 where it finished, or 34 to 36, with the steps made and the length of the plan reached; or the number of the refusal and its place.
 #[no_mangle]
 pub extern "C" fn aberulwy_unfold(
     tables: &[u8],
@@ -301,7 +301,7 @@ pub extern "C" fn aberulwy_unfold_checked(
     hand_unfolded(unfolded, steps, size, place)
 }
 
-// Copies the plan reached, after so many steps and of so many words, out of area A or B, with zeros behind it: 0 and its length; or 1 and 0 where
+// Copies the plan reached, after `steps` steps and of `size` words, out of area A or B, with zeros behind it: 0 and its length; or 1 and 0 where
 // the area is too short, which then keeps its bytes.
 #[no_mangle]
 pub extern "C" fn aberulwy_reached<'a>(
