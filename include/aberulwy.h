@@ -9,9 +9,10 @@
  * A call takes slices of any length, each a pointer and a length. It reads and writes nothing but these and its out numbers, and it ends. What it
  * may write to must not overlap anything else handed to it, and no pointer may be null, even where its length is 0.
  *
- * Stack: allow 640 KiB for aberulwy_list_station, 512 KiB for aberulwy_unfold and aberulwy_unfold_checked, 128 KiB for aberulwy_check_rewriting, and
- * 64 KiB for each other call. Measured in threads on x86-64 Linux, aberulwy_list_station needs 486 KiB, aberulwy_unfold and
- * aberulwy_unfold_checked 354, aberulwy_check_rewriting 86, and the others at most 32. Nothing is allocated.
+ * Stack: allow 640 KiB for aberulwy_list_station, 512 KiB for aberulwy_unfold and aberulwy_unfold_checked, 192 KiB for aberulwy_read_text, 128 KiB
+ * for aberulwy_check_rewriting, and 64 KiB for each other call. Measured in threads on x86-64 Linux, aberulwy_list_station needs 486 KiB,
+ * aberulwy_unfold and aberulwy_unfold_checked 354, aberulwy_read_text 131 (for a text 200 brackets deep; no text goes deeper),
+ * aberulwy_check_rewriting 86, and the others at most 32. Nothing is allocated.
  *
  * The archive is made by `rt staticlib aberulwy_c`: target/staticlib/libaberulwy_c.a.
  */
@@ -21,7 +22,7 @@
 #include <stddef.h>
 #include <stdint.h>
 
-#define ABERULWY_VERSION "0.5.0"
+#define ABERULWY_VERSION "0.6.0"
 
 #ifdef __cplusplus
 extern "C" {
@@ -74,6 +75,13 @@ uint8_t aberulwy_check_rewriting(const uint8_t *tables, size_t tables_len, const
  * leave the areas as they are. */
 uint8_t aberulwy_read_station(const uint8_t *file, size_t file_len, uint8_t *tables, size_t tables_len, uint8_t *plan, size_t plan_len,
                               size_t *size, size_t *place);
+
+/* Reads a text, a plan typed in signs, into a plan area. Returns 0, and then *size is the plan's length; its words stand first in the area, and
+ * zeros behind. Or returns 1 to 8; then the first of 61 (a character that cannot go on, a text that ends too early, an action above n) and 62 (a
+ * bracket deeper than 200) in the text, at its place; then 63 (a plan longer than the area or than 16,384 words): the area then keeps its bytes.
+ * The text has any length and any bytes, with no zero at its end. docs/FORMATS.md has the grammar. */
+uint8_t aberulwy_read_text(const uint8_t *tables, size_t tables_len, const uint8_t *text, size_t text_len, uint8_t *plan, size_t plan_len,
+                           size_t *size, size_t *place);
 
 /* Lists a station file: everything that the program prints for it, refusals too. Returns 0, and then *size is the text's length, and zeros stand
  * behind it; or returns 1 where the area is too short for it: it then keeps its bytes, and *size is 0. No listing is longer than 93,000 bytes. */

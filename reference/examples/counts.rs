@@ -3,6 +3,7 @@
 //! `counts [cases] [seed]`
 
 use reference::random::cases::{check_case, own_rewriting_case, station_case, unfold_case};
+use reference::random::texts::text_case;
 use reference::random::Random;
 use std::collections::BTreeMap;
 use std::time::{Duration, Instant};
@@ -17,10 +18,11 @@ fn main() {
     let mut number = |default| given.next().map_or(default, |text| text.parse().unwrap());
     let (cases, seed) = (number(20_000), number(1));
     let mut random = Random::new(seed);
-    let kinds: [(&str, Kind); 3] = [
+    let kinds: [(&str, Kind); 4] = [
         ("unfolding, then its own rewriting checked", unfolding),
         ("checking", checking),
         ("station files", stations),
+        ("texts", texts),
     ];
     for (name, kind) in kinds {
         let (counts, slowest, time) = count(cases, &mut random, kind);
@@ -62,6 +64,13 @@ fn checking(random: &mut Random) -> u8 {
 
 fn stations(random: &mut Random) -> u8 {
     station_case(random)
+        .run()
+        .answer
+        .map_or_else(|refusal| refusal.number, |_| 0)
+}
+
+fn texts(random: &mut Random) -> u8 {
+    text_case(random)
         .run()
         .answer
         .map_or_else(|refusal| refusal.number, |_| 0)

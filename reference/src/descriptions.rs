@@ -15,10 +15,12 @@
 //! | `A < B` | B goes before A |
 //! | `set H = A B …` | set H, 0 to 7, blocks these actions |
 //! | `plan W W …` | the plan's words in postfix order, 1 to 16,632 of them |
+//! | `text S` | or the plan typed in signs, as [`texts`](crate::texts) reads it |
 //!
-//! `actions` and `plan` stand there once; the order of the lines is free. Actions are 0 to 31, 0
-//! being dead stop. `#` begins a comment, and lines without anything else are passed over. Blanks
-//! are free, and a plan's words stand apart. Where two lines tell an entry, the later one holds.
+//! `actions` stands there once, and either `plan` or `text`; the order of the lines is free. Actions
+//! are 0 to 31, 0 being dead stop. `#` begins a comment, but for a line `text`, where it is merge;
+//! lines without anything else are passed over. Blanks are free, but for those in a text, and a
+//! plan's words stand apart. Where two lines tell an entry, the later one holds.
 //!
 //! `A < B` tells this pair alone: the order is not closed by itself. With `1 < 2` and `2 < 3` the
 //! line `1 < 3` must stand there too; without it the file is refused with 8.
@@ -37,7 +39,7 @@
 //! | 70 | `θ` | `theta` | priority |
 //! | 80 to 87 | `∂0` to `∂7` | `d0` to `d7` | encapsulation by set 0 to 7 |
 //!
-//! Nothing else is judged here: whoever reads the file does that, so that a description may also
+//! Nothing else is judged here, but that a text is one (61 and 62): whoever reads the file does that, so that a description may also
 //! tell tables and plans that are to be refused. The language is this folder's own.
 
 use crate::plans::{
@@ -45,6 +47,7 @@ use crate::plans::{
 };
 use crate::stations::{write_station, CONTENT, MOST_BLOCKS, TABLE_BLOCKS};
 use crate::tables::{entry, COMMUNICATION, DEAD_STOP, MOST_ACTIONS, PRIORITY, SETS, TABLES_LENGTH};
+use crate::texts::{judge_text, words};
 use std::error::Error;
 use std::fmt;
 
@@ -102,6 +105,7 @@ impl Error for Complaint {}
 ///
 /// let file = station("actions 2\nplan 1 2 ‖  # both in any order\n")?;
 /// assert_eq!(file.len(), 6 * 512);
+/// assert_eq!(station("actions 2\ntext (1 # 2)\n")?, file);
 ///
 /// let complaint = station("actions 2\nplan 1 2 &\n").unwrap_err();
 /// assert_eq!(
@@ -117,15 +121,12 @@ pub fn station(text: &str) -> Result<Vec<u8>, Complaint> {
         plan: None,
     };
     for (index, line) in text.lines().enumerate() {
-        told.line(line).map_err(|expected| Complaint {
+        told.line(index + 1, line).map_err(|expected| Complaint {
             line: Some((index + 1, line.trim().to_string())),
             expected,
         })?;
     }
-    told.file().map_err(|expected| Complaint {
-        line: None,
-        expected,
-    })
+    told.file()
 }
 
 /// What the lines so far tell.
@@ -133,12 +134,22 @@ struct Told {
     tables: [u8; TABLES_LENGTH],
     /// Whether a line told the count of actions.
     counted: bool,
-    plan: Option<Vec<u8>>,
+    plan: Option<Plan>,
+}
+
+/// A plan as a line tells it.
+enum Plan {
+    Words(Vec<u8>),
+    /// A text and the number of its line: it can be judged when the count of actions is known.
+    Text(usize, String),
 }
 
 impl Told {
     /// Takes a line, or answers what was expected in it.
-    fn line(&mut self, line: &str) -> Result<(), String> {
+    fn line(&mut self, number: usize, line: &str) -> Result<(), String> {
+        if let Some(text) = line.trim_start().strip_prefix("text ") {
+            return self.told(Plan::Text(number, text.trim().to_string()));
+        }
         let line = line.split('#').next().unwrap_or_default();
         let mut words = line.split_whitespace();
         if words.next() == Some("plan") {
@@ -153,7 +164,10 @@ impl Told {
             ["set", set, "=", ref actions @ ..] => self.set(set, actions),
             [a, "|", b, "=", c] => self.communication(a, b, c),
             [a, "<", b] => self.priority(a, b),
-            _ => Err("`actions N`, `A | B = C`, `A < B`, `set H = A B …` or `plan W W …`".into()),
+            _ => Err(
+                "`actions N`, `A | B = C`, `A < B`, `set H = A B …`, `plan W W …` or `text S`"
+                    .into(),
+            ),
         }
     }
 
@@ -196,27 +210,68 @@ impl Told {
     }
 
     fn plan<'t>(&mut self, words: impl Iterator<Item = &'t str>) -> Result<(), String> {
-        if self.plan.is_some() {
-            return Err("one line `plan W W …`, and this is a second one".into());
-        }
         let plan = words.map(word).collect::<Result<Vec<u8>, String>>()?;
-        match plan.len() {
-            0 => Err("a word or more behind `plan`".into()),
-            1..=MOST_WORDS => {
-                self.plan = Some(plan);
-                Ok(())
-            }
-            many => Err(format!("at most {MOST_WORDS} words, not {many}")),
+        if plan.is_empty() {
+            return Err("a word or more behind `plan`".into());
         }
+        fits(&plan)?;
+        self.told(Plan::Words(plan))
     }
 
-    /// The station file, or which line is missing.
-    fn file(self) -> Result<Vec<u8>, String> {
-        if !self.counted {
-            return Err("a line `actions N`, and there is none".into());
+    /// The plan, of which one is told.
+    fn told(&mut self, plan: Plan) -> Result<(), String> {
+        if self.plan.is_some() {
+            return Err("one line `plan W W …` or `text S`, and this is a second one".into());
         }
-        let missing = "a line `plan W W …`, and there is none";
-        Ok(write_station(&self.tables, &self.plan.ok_or(missing)?))
+        self.plan = Some(plan);
+        Ok(())
+    }
+
+    /// The station file, or which line is missing, or what is wrong with the text.
+    fn file(self) -> Result<Vec<u8>, Complaint> {
+        let missing = |line: &str| Complaint {
+            line: None,
+            expected: format!("a line {line}, and there is none"),
+        };
+        if !self.counted {
+            return Err(missing("`actions N`"));
+        }
+        let plan = match self.plan {
+            None => return Err(missing("`plan W W …` or `text S`")),
+            Some(Plan::Words(plan)) => plan,
+            Some(Plan::Text(number, text)) => {
+                plan_of(&self.tables, &text).map_err(|expected| Complaint {
+                    line: Some((number, format!("text {text}"))),
+                    expected,
+                })?
+            }
+        };
+        Ok(write_station(&self.tables, &plan))
+    }
+}
+
+/// The plan that a text is, or what was expected.
+fn plan_of(tables: &[u8], text: &str) -> Result<Vec<u8>, String> {
+    if let Err(refusal) = judge_text(tables, text.as_bytes()) {
+        let (number, place) = (refusal.number, refusal.place.printed());
+        let rest = String::from_utf8_lossy(&text.as_bytes()[place..]);
+        return Err(match rest.is_empty() {
+            true => format!("a plan in signs, and the text ends too early (refusal {number})"),
+            false => {
+                format!("a plan in signs, and at place {place} stands `{rest}` (refusal {number})")
+            }
+        });
+    }
+    let plan = words(text.as_bytes());
+    fits(&plan)?;
+    Ok(plan)
+}
+
+/// Whether blocks hold a plan.
+fn fits(plan: &[u8]) -> Result<(), String> {
+    match plan.len() {
+        0..=MOST_WORDS => Ok(()),
+        many => Err(format!("at most {MOST_WORDS} words, not {many}")),
     }
 }
 

@@ -5,8 +5,9 @@
 //! by the shortest rendering of the sentence that asks for it, so that another
 //! implementation can be compared with it byte for byte. Each item quotes the
 //! sentence that it renders. `docs/FORMATS.md` and `docs/NUMBERS.md` tell the
-//! bytes and the numbers. [`descriptions`], [`reading`] and [`random`] are this
-//! folder's own.
+//! bytes and the numbers. [`texts`] was written from request 101 of the customer's
+//! change requests; [`descriptions`], [`reading`] and [`random`] are this folder's
+//! own.
 
 #![forbid(unsafe_code)]
 #![warn(missing_docs)]
@@ -23,6 +24,7 @@ pub mod refusals;
 pub mod runs;
 pub mod stations;
 pub mod tables;
+pub mod texts;
 pub mod trees;
 pub mod unfolding;
 

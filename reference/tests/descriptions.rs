@@ -19,6 +19,9 @@ plan 1 2 66
 /// The bench with a hasty hub and a crusted coin.
 const CRUSTED_COIN: &str = include_str!("../../examples/bench/crusted-coin.description");
 
+/// The bench with the hub that waits, its plan typed in signs.
+const HUB_WAITS: &str = include_str!("../../examples/bench/crusted-coin-hub-waits.description");
+
 /// The plan of a described station file.
 fn plan(words: &str) -> Vec<u8> {
     let file = station(&format!("actions 31\nplan {words}")).unwrap();
@@ -45,6 +48,8 @@ fn tray_1_byte_for_byte() {
 fn crusted_coin_byte_for_byte() {
     let stored = include_bytes!("../../examples/bench/crusted-coin.station");
     assert_eq!(station(CRUSTED_COIN).unwrap(), stored);
+    let stored = include_bytes!("../../examples/bench/crusted-coin-hub-waits.station");
+    assert_eq!(station(HUB_WAITS).unwrap(), stored);
 }
 
 #[test]
@@ -93,7 +98,8 @@ fn an_order_is_not_closed_by_itself() {
 
 #[test]
 fn a_line_that_is_none() {
-    let expected = "expected `actions N`, `A | B = C`, `A < B`, `set H = A B …` or `plan W W …`";
+    let expected =
+        "expected `actions N`, `A | B = C`, `A < B`, `set H = A B …`, `plan W W …` or `text S`";
     let unknown = [
         "action 4",
         "actions",
@@ -156,7 +162,7 @@ fn actions_and_plan_once() {
     assert_eq!(complaint("plan 1"), none);
     assert_eq!(
         complaint("actions 4 # plan 1"),
-        "expected a line `plan W W …`, and there is none"
+        "expected a line `plan W W …` or `text S`, and there is none"
     );
     assert_eq!(
         complaint("actions 4\nplan 1\nactions 4"),
@@ -164,8 +170,48 @@ fn actions_and_plan_once() {
     );
     assert_eq!(
         complaint("actions 4\nplan 1\nplan 1"),
-        "line 3: plan 1\nexpected one line `plan W W …`, and this is a second one"
+        "line 3: plan 1\nexpected one line `plan W W …` or `text S`, and this is a second one"
     );
+}
+
+#[test]
+fn a_plan_typed_in_signs() {
+    let text = |line: &str| station(&format!("{line}\nactions 4"));
+    assert_eq!(
+        text("  text (1 # 2)+0 "),
+        station("actions 4\nplan 1 2 ‖ 0 +")
+    );
+    for (told, expected) in [
+        (
+            "(1 #2)",
+            "a plan in signs, and at place 4 stands `2)` (refusal 61)",
+        ),
+        (
+            "1+45",
+            "a plan in signs, and at place 2 stands `45` (refusal 61)",
+        ),
+        (
+            "1 ‖ 2",
+            "a plan in signs, and at place 1 stands ` ‖ 2` (refusal 61)",
+        ),
+        (
+            "1+",
+            "a plan in signs, and the text ends too early (refusal 61)",
+        ),
+    ] {
+        let line = format!("text {told}");
+        assert_eq!(
+            text(&line).unwrap_err().to_string(),
+            format!("line 1: {line}\nexpected {expected}")
+        );
+    }
+    assert_eq!(
+        complaint("actions 4\nplan 1\ntext 1"),
+        "line 3: text 1\nexpected one line `plan W W …` or `text S`, and this is a second one"
+    );
+    let long = vec!["1"; MOST_WORDS / 2 + 2].join("+");
+    let complaint = text(&format!("text {long}")).unwrap_err();
+    assert_eq!(complaint.expected, "at most 16632 words, not 16635");
 }
 
 #[test]

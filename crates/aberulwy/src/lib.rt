@@ -11,6 +11,7 @@ use checking::Checked;
 use refusals::Judgement;
 use refusals::Refusal;
 use stations::StationRead;
+use texts::TextRead;
 use unfolding::Unfolded;
 ghost use mathlib.Core.Path.{_≡_};
 ghost use mathlib.Core.List.{[]};
@@ -23,6 +24,8 @@ ghost use Rattle.tables.specs.Lawful.{Lawful};
 ghost use Rattle.plans.specs.Judging.{plan-refusal};
 ghost use Rattle.plans.specs.Accepted.{AcceptedPlan, BasicPlan};
 ghost use Rattle.stations.specs.File.{station-outcome, station-report, station-reported, StationOutcome};
+ghost use Rattle.texts.specs.Text.{text-outcome, text-report, text-reported, TextOutcome};
+ghost use Rattle.texts.specs.Claims.{TextClaims};
 ghost use Rattle.areas.specs.Reached.{even?, reached-part};
 ghost use Rattle.unfolding.specs.Unfolding.{unfold-outcome, UnfoldOutcome};
 ghost use Rattle.checking.specs.Checking.{check-outcome, CheckOutcome};
@@ -176,6 +179,18 @@ pub fn read_station(file: &[u8], tables: &mut [u8], plan: &mut [u8]) -> StationR
     ensures numbers { λ r. ⌜ station-report r ≡ station-reported (now (file .entry)) (now (tables .entry)) (now (plan .entry)) ⌝ }
 {
     stations::read_station(file, tables, plan)
+}
+
+// Reads a text, a plan typed in signs, into a plan area: the plan's length, or refusals 1 to 8, then the first of 61 and 62 in the text, then 63,
+// which leave the area as it is. It is read exactly when it belongs to the grammar within the limits, and as one plan only.
+pub fn read_text(tables: &[u8], text: &[u8], plan: &mut [u8]) -> TextRead
+    ensures whole { λ r. ⌜ _≡_ {A = TextOutcome} (record { answer = r; plan = now (plan .exit) })
+        (text-outcome (now (tables .entry)) (now (text .entry)) (now (plan .entry))) ⌝ }
+    ensures numbers { λ r. ⌜ text-report r ≡ text-reported (now (tables .entry)) (now (text .entry)) (now (plan .entry)) ⌝ }
+    ensures claims { λ r. ⌜ TextClaims (now (tables .entry)) (now (text .entry)) (now (plan .entry))
+        (record { answer = r; plan = now (plan .exit) }) ⌝ }
+{
+    texts::read_text(tables, text, plan)
 }
 
 // The check of an unfolding's own rewriting; nothing is checked where the unfolding was refused.

@@ -1,3 +1,4 @@
 mod Answers
 mod Numbers
 mod Seen
+mod Texts

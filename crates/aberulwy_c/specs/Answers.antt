@@ -11,6 +11,7 @@ use Rattle.tables.specs.Tables.{Tables}
 use Rattle.unfolding.specs.Unfolding.{unfold-outcome, UnfoldOutcome}
 use Rattle.checking.specs.Checking.{check-outcome, CheckOutcome}
 use Rattle.stations.specs.File.{station-outcome, station-report, StationOutcome}
+use Rattle.texts.specs.Text.{text-outcome, text-report, TextOutcome}
 use Rattle.aberulwy.specs.Rewriting.{unfold-report, check-report, own-report, both-outcome, BothOutcome}
 
 -- everything that a call answers and leaves
@@ -54,6 +55,13 @@ of-station o = returned 1 (station-report (o .answer)) (o .tables ∷ o .plan �
 
 abbrev pub station-returned : List ℕ → List ℕ → List ℕ → Returned
 station-returned file tables plan = of-station (station-outcome file tables plan)
+
+-- a text read: the plan's size; the plan
+abbrev pub of-text : TextOutcome → Returned
+of-text o = returned 1 (text-report (o .answer)) (o .plan ∷ [])
+
+abbrev pub text-returned : Tables → List ℕ → List ℕ → Returned
+text-returned tables text plan = of-text (text-outcome tables text plan)
 
 -- the check of an unfolding's own rewriting: whether it was made, its number, steps, size and place; zeros where none was made
 abbrev pub own-numbers : Option Report → List ℕ

@@ -7,6 +7,10 @@ use Rattle.unfolding.specs.declared.Unfolded.{Unfolded}
 use Rattle.unfolding.specs.declared.Unfolded.the-variants.{Finished, Stopped, Refused as Not-unfolded}
 use Rattle.checking.specs.declared.Checked.{Checked}
 use Rattle.checking.specs.declared.Checked.the-variants.{Accepted, TurnedBack, Refused as Not-checked}
+use Rattle.texts.specs.declared.TextRead.{TextRead}
+use Rattle.texts.specs.declared.TextRead.the-variants.{Read, Refused as Not-read}
+use Rattle.texts.specs.Claims.{TextClaims}
+use Rattle.tables.specs.Tables.{Tables}
 use Rattle.demands.specs.Claims.{UnfoldGiven, CheckGiven, UnfoldClaims, CheckClaims, StepClaims}
 use Rattle.aberulwy.specs.declared.OwnCheck.{OwnCheck}
 use Rattle.aberulwy.specs.declared.OwnCheck.the-variants.{Checked as Checked-as, NotChecked}
@@ -28,6 +32,11 @@ pub data CheckedAs : Checked → ℕ → ℕ → ℕ → ℕ → Type 0 where
 pub data OwnAs : OwnCheck → ℕ → ℕ → ℕ → ℕ → ℕ → Type 0 where
   made : (answer : Checked) (number place steps size : ℕ) → CheckedAs answer number place steps size → OwnAs (Checked-as answer) 1 number place steps size
   not-made : OwnAs NotChecked 0 0 0 0 0
+
+-- The answer of reading a text by the number answered and the place and size set: 0 is read, 1 to 63 are refusals.
+pub data TextReadAs : TextRead → ℕ → ℕ → ℕ → Type 0 where
+  read : (size : ℕ) → TextReadAs (Read size) 0 0 size
+  refused : (f : Refusal) → 1 ≤ f .number → f .number ≤ 63 → TextReadAs (Not-read f) (f .number) (printed (f .place)) 0
 
 -- Of an unfolding that left these bytes: what is claimed of it holds of the answer seen.
 pub record UnfoldSeen (given : UnfoldGiven) (list a b : List ℕ) (number place steps size : ℕ) : Type 0 where
@@ -66,3 +75,9 @@ pub record OwnSeen (a b c d : List ℕ) (n : BothNumbers) : Type 0 where
   pub seen : UnfoldedAs unfolded (n .number) (n .place) (n .steps) (n .size)
   pub own-seen : OwnAs own (n .checked) (n .own-number) (n .own-place) (n .own-steps) (n .own-size)
   pub accepts : OwnAccepted unfolded own a b c d
+
+-- Of a text read that left these bytes in the plan area.
+pub record TextSeen (tables : Tables) (text area left : List ℕ) (number place size : ℕ) : Type 0 where
+  pub answer : TextRead
+  pub seen : TextReadAs answer number place size
+  pub claims : TextClaims tables text area (record { answer = answer; plan = left })

@@ -9,6 +9,7 @@ use listing::Listed;
 use refusals::Judgement;
 use refusals::Refusal;
 use stations::StationRead;
+use texts::TextRead;
 use unfolding::Unfolded;
 ghost use mathlib.Core.Path.{_≡_};
 ghost use mathlib.Core.List.{_∷_, []};
@@ -28,9 +29,9 @@ ghost use Rattle.listing.specs.Listing.{listing};
 ghost use Rattle.listing.specs.Writing.{most};
 ghost use Rattle.listing.specs.Endings.{Endings};
 ghost use Rattle.aberulwy_c.specs.Answers.{Returned, returned, HandedOver, handed-over};
-ghost use Rattle.aberulwy_c.specs.Answers.{unfold-returned, check-returned, both-returned, station-returned};
+ghost use Rattle.aberulwy_c.specs.Answers.{unfold-returned, check-returned, both-returned, station-returned, text-returned};
 ghost use Rattle.aberulwy_c.specs.Handing.{Answered, MaybeAnswered};
-ghost use Rattle.aberulwy_c.specs.Seen.{UnfoldSeen, CheckSeen, StepSeen, OwnSeen};
+ghost use Rattle.aberulwy_c.specs.Seen.{UnfoldSeen, CheckSeen, StepSeen, OwnSeen, TextSeen};
 
 // Answers a refusal's number and sets its place.
 fn refuse(refusal: Refusal, place: &mut usize) -> u8
@@ -381,6 +382,37 @@ pub extern "C" fn aberulwy_read_station(
             0
         }
         StationRead::Refused(refusal) => refuse(refusal, place),
+    }
+}
+
+// Reads a text, a plan typed in signs, into a plan area: 0 with the plan's length; or the number of the refusal and its place.
+#[no_mangle]
+pub extern "C" fn aberulwy_read_text(
+    tables: &[u8],
+    text: &[u8],
+    plan: &mut [u8],
+    size: &mut usize,
+    place: &mut usize,
+) -> u8
+    ensures whole { λ r. ⌜ _≡_ {A = Returned}
+        (record {
+          number = r;
+          place = now (place .exit);
+          values = now (size .exit) ∷ [];
+          areas = now (plan .exit) ∷ [];
+        })
+        (text-returned (now (tables .entry)) (now (text .entry)) (now (plan .entry))) ⌝ }
+    ensures claims { λ r. ⌜ TextSeen (now (tables .entry)) (now (text .entry)) (now (plan .entry)) (now (plan .exit))
+        r (now (place .exit)) (now (size .exit)) ⌝ }
+{
+    *size = 0;
+    *place = 0;
+    match aberulwy::read_text(tables, text, plan) {
+        TextRead::Read { size: length } => {
+            *size = length;
+            0
+        }
+        TextRead::Refused(refusal) => refuse(refusal, place),
     }
 }
 

@@ -90,3 +90,10 @@ unfolding padded
 zero-all d₀ d k i h m a b e =
     let q : i ≡ length d₀ = omega arith in
     sym (take-all i d b) ∙ e ∙ rw (length-take-le k d₀ h, q)
+
+-- words copied to the front of an area, and the rest of it cleared
+pub padded-whole : (d d′ w : List ℕ) → length w ≤ length d → length d′ ≡ length d → d′ ≡ overwrite d 0 w → padded (take (length w) d′) (length d′) ≡ padded w (length d)
+padded-whole d d′ w h l e =
+    let z : 0 + length w ≡ length w = omega arith in
+    let t : take (length w) d′ ≡ w = rw e (rw z at (take-overwrite d 0 w (omega arith))) in
+    rw (t, l)

@@ -44,6 +44,16 @@ pub fn clear_from(dst: &mut [u8], at: usize)
     }
 }
 
+// Puts words into an area, zeros behind.
+pub fn put_whole(words: &[u8], area: &mut [u8])
+    requires { ⌜ length (now words) ≤ length (now area) ⌝ }
+    ensures { λ r. ⌜ now (area .exit) ≡ padded (now (words .entry)) (length (now (area .entry))) ⌝ }
+{
+    let end = words.len();
+    copy_in(words, area, 0);
+    clear_from(area, end);
+}
+
 // The smaller of two numbers.
 fn smaller(a: usize, b: usize) -> usize
     ensures { λ r. ⌜ r ≡ min a b ⌝ }

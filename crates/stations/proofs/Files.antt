@@ -12,8 +12,6 @@ use Rattle.refusals.specs.declared.Refusal.{Refusal}
 use Rattle.refusals.specs.declared.Judgement.{Judgement}
 use Rattle.refusals.specs.Refusal.{judged}
 use Rattle.tables.specs.Search.{first-of, first-from}
-use Rattle.areas.specs.Area.{overwrite, padded}
-use Rattle.areas.proofs.Area.{take-overwrite}
 use Rattle.stations.specs.Block.{block-refusal}
 use Rattle.stations.specs.File.{blocks, block, length-right, form-refusal}
 
@@ -64,10 +62,3 @@ module _ (f : List ℕ) where
     found-end h =
         let e : blocks f - i ≡ 0 = omega arith in
         rw e
-
--- words copied to the front of an area, and the rest of it cleared
-pub whole : (d d′ w : List ℕ) → length w ≤ length d → length d′ ≡ length d → d′ ≡ overwrite d 0 w → padded (take (length w) d′) (length d′) ≡ padded w (length d)
-whole d d′ w h l e =
-    let z : 0 + length w ≡ length w = omega arith in
-    let t : take (length w) d′ ≡ w = rw e (rw z at (take-overwrite d 0 w (omega arith))) in
-    rw (t, l)

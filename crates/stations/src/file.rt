@@ -4,7 +4,7 @@ ghost use mathlib.Core.Option.{none};
 ghost use Prim.Native.Nat.{_+_, _-_, _≤_};
 ghost use lib.ListN.{length};
 ghost use Rattle.refusals.specs.Refusal.{judged};
-ghost use Rattle.areas.specs.Area.{overwrite, Written, padded};
+ghost use Rattle.areas.specs.Area.{overwrite, Written};
 ghost use Rattle.stations.specs.Block.{count-of, used};
 ghost use Rattle.stations.specs.File.{blocks, length-right, held, form-refusal, held-refusal, StationOutcome, unless-refused};
 use super::StationRead;
@@ -90,16 +90,6 @@ pub fn judge_held(tables: &[u8], plan: &[u8], tables_area: usize, plan_area: usi
     plans::judge_plan(tables, plan)
 }
 
-// Copies words into an area, with zeros after.
-pub fn put_whole(words: &[u8], area: &mut [u8])
-    requires { ⌜ length (now words) ≤ length (now area) ⌝ }
-    ensures { λ r. ⌜ now (area .exit) ≡ padded (now (words .entry)) (length (now (area .entry))) ⌝ }
-{
-    let end = words.len();
-    areas::copy_in(words, area, 0);
-    areas::clear_from(area, end);
-}
-
 // Judges the tables and the plan that a file holds, and only then writes them into the areas.
 pub fn deliver(held: &[u8], words: &[u8], tables: &mut [u8], plan: &mut [u8]) -> StationRead
     requires { ⌜ length (now held) ≡ 2305 ⌝ }
@@ -111,7 +101,7 @@ pub fn deliver(held: &[u8], words: &[u8], tables: &mut [u8], plan: &mut [u8]) ->
     if let Judgement::Refused(refusal) = judge_held(held, words, tables.len(), plan.len()) {
         return StationRead::Refused(refusal);
     }
-    put_whole(held, tables);
-    put_whole(words, plan);
+    areas::put_whole(held, tables);
+    areas::put_whole(words, plan);
     StationRead::Read { size: words.len() }
 }

@@ -1,10 +1,11 @@
-//! Seeded random tables, plans, rewritings, files and whole cases, for comparing
+//! Seeded random tables, plans, rewritings, files, texts and whole cases, for comparing
 //! implementations. They stay close to the edges of what is accepted.
 
 pub mod cases;
 pub mod plans;
 pub mod rewritings;
 pub mod tables;
+pub mod texts;
 
 /// A seeded source of numbers (splitmix64): the same seed gives the same cases.
 #[derive(Clone, Debug)]

@@ -2,9 +2,9 @@
 //!
 //! The library judges *tables* (2,305 bytes: communication, priority, blocked sets) and
 //! *plans* (postfix words, one byte each), unfolds a plan to a basic one by laws 5 to 32,
-//! records the steps, checks anybody's rewriting by all thirty-two laws, and reads and lists
-//! station files. Every call takes slices of any length; what is malformed is refused with a number
-//! and a place, and then no lent byte is changed. Nothing is allocated.
+//! records the steps, checks anybody's rewriting by all thirty-two laws, reads and lists station
+//! files, and reads plans typed in signs. Every call takes slices of any length; what is malformed
+//! is refused with a number and a place, and then no lent byte is changed. Nothing is allocated.
 //!
 //! ```
 //! use aberulwy::{unfold, Ending};
@@ -33,14 +33,18 @@
 //! 68 communication merge, 69 unless, each of two operands; 70 is priority and 80 to 87 are
 //! encapsulation by set 0 to 7, each of one. Any other byte is no word.
 //!
+//! A plan may be typed in signs too, as `H0((1 # 2).3)`: [`read_text`] tells the signs, and turns
+//! such a text into words.
+//!
 //! The repository's `docs/FORMATS.md` draws tables, plans, rewritings, areas and station files,
 //! and `docs/NUMBERS.md` lists the words, the laws, the endings and the refusals.
 //!
 //! # Stack
 //!
-//! Allow 640 KiB for [`list_station`], 512 KiB for [`unfold`] and [`unfold_checked`], 128 KiB
-//! for [`check_rewriting`], and 64 KiB for each other call; `include/aberulwy.h` has what was
-//! measured. The default of a Rust thread (2 MiB) is enough for all of them.
+//! Allow 640 KiB for [`list_station`], 512 KiB for [`unfold`] and [`unfold_checked`], 192 KiB
+//! for [`read_text`], 128 KiB for [`check_rewriting`], and 64 KiB for each other call;
+//! `include/aberulwy.h` has what was measured. The default of a Rust thread (2 MiB) is enough for
+//! all of them.
 //!
 //! # Linking
 //!
@@ -58,12 +62,14 @@ mod judging;
 pub mod raw;
 mod refusals;
 mod stations;
+mod texts;
 mod unfolding;
 
 pub use checking::{check_rewriting, Checked, Verdict};
 pub use judging::{count_orders, is_basic, judge_plan, judge_tables};
 pub use refusals::{Place, Refusal};
 pub use stations::{list_station, read_station};
+pub use texts::read_text;
 pub use unfolding::{copy_reached, unfold, unfold_checked, Ending, Unfolded, UnfoldedChecked};
 
 /// The bytes of tables.

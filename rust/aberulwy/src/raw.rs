@@ -194,6 +194,17 @@ mod archive {
             size: *mut usize,
             place: *mut usize,
         ) -> u8;
+
+        pub fn aberulwy_read_text(
+            tables: *const u8,
+            tables_len: usize,
+            text: *const u8,
+            text_len: usize,
+            plan: *mut u8,
+            plan_len: usize,
+            size: *mut usize,
+            place: *mut usize,
+        ) -> u8;
     }
 }
 
@@ -525,6 +536,42 @@ pub fn read_station(file: &[u8], tables_area: &mut [u8], plan_area: &mut [u8]) -
             file.len(),
             tables_area.as_mut_ptr(),
             tables_area.len(),
+            plan_area.as_mut_ptr(),
+            plan_area.len(),
+            &mut value,
+            &mut place,
+        )
+    };
+    Counted {
+        number,
+        value,
+        place,
+    }
+}
+
+/// Reads a text, a plan typed in signs, and answers the plan's length: 0; or 1 to 8, 61 to 63
+/// with every lent byte kept.
+///
+/// ```
+/// use aberulwy::raw::{read_text, Counted};
+///
+/// let (tables, mut plan) = (aberulwy::examples::trial_tables(), [7; 4]);
+/// let read = read_text(&tables, b"(1 # 2)", &mut plan);
+/// assert_eq!(read, Counted { number: 0, value: 3, place: 0 });
+/// assert_eq!(plan, [1, 2, 66, 0]);
+/// // These tables have four actions.
+/// let refused = read_text(&tables, b"1+45", &mut plan);
+/// assert_eq!(refused, Counted { number: 61, value: 0, place: 2 });
+/// ```
+pub fn read_text(tables: &[u8], text: &[u8], plan_area: &mut [u8]) -> Counted {
+    let (mut value, mut place) = (NOT_SET, NOT_SET);
+    // SAFETY: see the head of this file.
+    let number = unsafe {
+        archive::aberulwy_read_text(
+            tables.as_ptr(),
+            tables.len(),
+            text.as_ptr(),
+            text.len(),
             plan_area.as_mut_ptr(),
             plan_area.len(),
             &mut value,

@@ -22,7 +22,8 @@ pub struct Refusal {
 pub enum Place {
     /// The refusal names no place.
     Nowhere,
-    /// The index of a byte of the tables or of the plan.
+    /// The index of a byte of the tables, of the plan or of the text; of a text that ends too
+    /// early, its length.
     Byte(usize),
     /// Three actions, in the order in which the law has them.
     Triple(u8, u8, u8),
@@ -88,7 +89,7 @@ impl Refusal {
     /// ```
     pub fn place(self) -> Place {
         match self.number {
-            3 | 4 | 5 | 7 | 12 | 13 => Place::Byte(self.printed),
+            3 | 4 | 5 | 7 | 12 | 13 | 61 | 62 => Place::Byte(self.printed),
             6 | 8 => Place::Triple(
                 (self.printed / 1024) as u8,
                 (self.printed / 32 % 32) as u8,
@@ -130,6 +131,9 @@ impl Refusal {
             53 => "a block's number is wrong",
             54 => "a block's kind, count or filling is wrong",
             55 => "an area is too small for the file's tables or plan",
+            61 => "the text is no plan: it goes wrong at this place",
+            62 => "a bracket of the text goes deeper than 200",
+            63 => "the text's plan is longer than its area or than 16,384 words",
             _ => "an unlisted reason",
         }
     }
@@ -162,5 +166,8 @@ mod tests {
         assert_eq!(Refusal::new(12, 7).place(), Place::Byte(7));
         assert_eq!(Refusal::new(17, 7).place(), Place::Step(7));
         assert_eq!(Refusal::new(55, 0).place(), Place::Nowhere);
+        assert_eq!(Refusal::new(61, 7).place(), Place::Byte(7));
+        assert_eq!(Refusal::new(62, 201).place(), Place::Byte(201));
+        assert_eq!(Refusal::new(63, 0).place(), Place::Nowhere);
     }
 }

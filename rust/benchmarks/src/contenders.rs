@@ -2,14 +2,16 @@
 //! the reference, which is compared but too slow to measure.
 
 use crate::plain;
-use reference::{checking, unfolding};
+use reference::{checking, texts, unfolding, Refusal};
 
-/// How a call ended: number, steps, words of the plan reached.
+/// How a call ended: number, steps, words of the plan reached or read.
 pub type Ended = (u8, usize, usize);
 /// Unfolds: tables, plan, allowance, list, areas A and B.
 pub type Unfold = fn(&[u8], &[u8], u32, &mut [u8], &mut [u8], &mut [u8]) -> Ended;
 /// Checks: tables, start plan, claimed plan, rewriting, areas A and B.
 pub type Check = fn(&[u8], &[u8], &[u8], &[u8], &mut [u8], &mut [u8]) -> Ended;
+/// Reads a text: tables, text, plan area. It makes no steps.
+pub type Read = fn(&[u8], &[u8], &mut [u8]) -> Ended;
 
 /// An implementation to measure.
 #[derive(Clone, Copy)]
@@ -18,6 +20,8 @@ pub struct Contender {
     pub unfold: Unfold,
     /// Its checker.
     pub check_rewriting: Check,
+    /// Its reader of texts.
+    pub read_text: Read,
 }
 
 /// The unverified version in plain Rust.
@@ -30,6 +34,7 @@ pub const PLAIN: Contender = Contender {
             tables, start, claimed, rewriting, a, b,
         ))
     },
+    read_text: |tables, text, plan_area| read(plain::read_text(tables, text, plan_area)),
 };
 
 /// The second implementation, written for comparison.
@@ -42,6 +47,7 @@ pub const REFERENCE: Contender = Contender {
             tables, start, claimed, rewriting, a, b,
         ))
     },
+    read_text: |tables, text, plan_area| read(texts::read_text(tables, text, plan_area)),
 };
 
 fn unfolded(answer: unfolding::Answer) -> Ended {
@@ -67,6 +73,13 @@ fn checked(answer: checking::Answer) -> Ended {
     }
 }
 
+fn read(answer: Result<usize, Refusal>) -> Ended {
+    match answer {
+        Ok(size) => (0, 0, size),
+        Err(refusal) => (refusal.number, 0, 0),
+    }
+}
+
 /// The proved library; none where it is left out.
 #[cfg(not(feature = "archive"))]
 pub const PROVED: Option<Contender> = None;
@@ -81,5 +94,9 @@ pub const PROVED: Option<Contender> = Some(Contender {
     check_rewriting: |tables, start, claimed, rewriting, a, b| {
         let ended = aberulwy::raw::check_rewriting(tables, start, claimed, rewriting, a, b);
         (ended.number, ended.steps, ended.size)
+    },
+    read_text: |tables, text, plan_area| {
+        let read = aberulwy::raw::read_text(tables, text, plan_area);
+        (read.number, 0, read.value)
     },
 });

@@ -1,13 +1,13 @@
 //! Prints, as Markdown tables, what a step takes: in the proved library, in an unverified plain
-//! Rust version of the same algorithm, and in Maude. Ends at the first call on which the proved
-//! library and the plain version differ.
+//! Rust version of the same algorithm, and in Maude; and what a character of a text takes in the
+//! first two. Ends at the first call on which the proved library and the plain version differ.
 
 use benchmarks::contenders::{PLAIN, PROVED};
 use benchmarks::maude;
 use benchmarks::measuring::{cell, least_times, mean};
 use benchmarks::workloads::{
     growing_sums, merges_in_growing_areas, merges_of_longer_chains, single_action, sizes,
-    sum_tables, Places, Replay, Unfolding, Workload, REPLAYED,
+    sum_tables, texts, Places, Reading, Replay, Unfolding, Workload, REPLAYED,
 };
 use reference::plans::LONGEST_PLAN;
 use reference::tables::{actions, trial_tables};
@@ -24,7 +24,10 @@ fn main() {
         "one after the other. Steps alone: the proved library's call less the same call with a"
     );
     println!("plan of one action. Maude: its own report, for one of many reductions of the plan;");
-    println!("rewrites are the equations that it used for one.");
+    println!(
+        "rewrites are the equations that it used for one. The last two tables are of texts, for"
+    );
+    println!("a call and for a character.");
     match PROVED {
         Some(_) => println!("\nIn each row the proved library and the plain version were first called once each, and\nagreed in every number answered and in every lent byte."),
         None => println!("\nThe proved library is left out: build with `--features archive` to link it."),
@@ -38,6 +41,8 @@ fn main() {
     longer_chains(with_maude);
     plan_length(with_maude);
     replays();
+    short_texts();
+    long_texts();
 }
 
 /// What the proved library and the plain version take.
@@ -67,14 +72,13 @@ impl Times {
         }
     }
 
-    /// What the steps of an unfolding alone take: the call less the same call without a step,
-    /// which take turns.
-    fn steps_alone(unfolding: &mut Unfolding) -> Times {
-        let mut empty = unfolding.without_steps();
+    /// What the steps or the text alone take: the call less the same call without them, which
+    /// take turns.
+    fn alone<Call: Workload>(call: &mut Call, mut empty: Call) -> Times {
         let contenders = [Some(PLAIN), PROVED];
         let [plain, proved, empty_plain, empty_proved] = least_times(|index| {
             contenders[index % 2].map(|contender| match index {
-                0..2 => unfolding.run(contender),
+                0..2 => call.run(contender),
                 _ => empty.run(contender),
             });
         });
@@ -123,7 +127,8 @@ impl Unfoldings {
     fn row(&mut self, names: &str, mut unfolding: Unfolding) {
         let (words, steps) = (unfolding.plan.len(), unfolding.steps);
         let call = Times::measure(names, &mut unfolding).each(steps);
-        let alone = Times::steps_alone(&mut unfolding).each(steps);
+        let without_steps = unfolding.without_steps();
+        let alone = Times::alone(&mut unfolding, without_steps).each(steps);
         let reduced = match self.with_maude {
             true => {
                 let reduced = maude::reduce(&unfolding).expect("maude runs");
@@ -226,4 +231,57 @@ fn replays() {
         }
     }
     println!("| geometric mean | | | | | {} |", cell(mean(&ratios)));
+}
+
+fn short_texts() {
+    println!("\n### Reading texts: short ones\n");
+    println!(
+        "Nanoseconds for the call, most of them for the tables: a part that every call has.\n"
+    );
+    println!("| text | tables | area | proved | plain | proved/plain |");
+    println!("|---|---|--:|--:|--:|--:|");
+    for text in ["1", "(1 # 2)"] {
+        for tables in [trial_tables(), sum_tables()] {
+            for area in [SMALL_AREA, LONGEST_PLAN] {
+                let name = format!("`{text}` | {} actions | {area}", actions(&tables));
+                let mut reading = Reading::new(tables.clone(), text, area);
+                let times = Times::measure(&name, &mut reading);
+                println!("| {name} | {} |", times.cells());
+            }
+        }
+    }
+}
+
+fn long_texts() {
+    println!("\n### Reading texts: plans as long as can be\n");
+    println!("Nanoseconds for the call, and for a character: of the call, and of the text alone,");
+    println!(
+        "which is the call less the same call with a text of one character. Deep: brackets in"
+    );
+    println!(
+        "brackets, 200 deep, side by side in a sum. Typed plans: a sum of plans of all sorts.\n"
+    );
+    println!("| text | characters | words | call: proved | plain | proved/plain | a character: proved | plain | text alone: proved | plain | proved/plain |");
+    println!("|---|--:|--:|--:|--:|--:|--:|--:|--:|--:|--:|");
+    let mut ratios: [Vec<f64>; 2] = Default::default();
+    for (name, mut reading) in texts() {
+        let characters = reading.text.len();
+        let (_, _, words) = reading.run(PLAIN);
+        let call = Times::measure(name, &mut reading);
+        let without_text = reading.without_text();
+        let alone = Times::alone(&mut reading, without_text).each(characters);
+        let each = call.each(characters);
+        println!(
+            "| {name} | {characters} | {words} | {} | {} | {} | {} |",
+            call.cells(),
+            cell(each.proved),
+            cell(Some(each.plain)),
+            alone.cells(),
+        );
+        for (ratios, times) in ratios.iter_mut().zip([call, alone]) {
+            ratios.extend(times.ratio());
+        }
+    }
+    let [call, alone] = ratios.map(|ratios| cell(mean(&ratios)));
+    println!("| geometric mean | | | | | {call} | | | | | {alone} |");
 }

@@ -1,11 +1,14 @@
-//! Calls to measure: plans to unfold and rewritings to replay.
+//! Calls to measure: plans to unfold, rewritings to replay and texts to read.
 
 use crate::contenders::{Contender, Ended, PLAIN};
 use reference::plans::{CHOICE, ENCAPSULATION, LONGEST_PLAN, MERGE, PRODUCT, THETA};
+use reference::random::plans::{plan, small_plan};
+use reference::random::Random;
 use reference::runs::reached;
 use reference::tables::{
     entry, trial_tables, COMMUNICATION, DEAD_STOP, PRIORITY, SETS, TABLES_LENGTH,
 };
+use reference::texts::{typed, DEEPEST};
 use reference::unfolding::record;
 
 /// The lengths of areas measured, doubling up to the longest plan.
@@ -357,6 +360,129 @@ impl Workload for Replay {
     }
 }
 
+/// A text to read, and what is lent.
+pub struct Reading {
+    tables: Vec<u8>,
+    /// The text.
+    pub text: Vec<u8>,
+    area: Vec<u8>,
+}
+
+impl Reading {
+    /// A text with an area of this length.
+    pub fn new(tables: Vec<u8>, text: &str, area: usize) -> Reading {
+        Reading {
+            tables,
+            text: text.into(),
+            area: vec![0; area],
+        }
+    }
+
+    /// The same call with a text of one character: nearly nothing is read, and all that comes
+    /// before and after is done.
+    pub fn without_text(&self) -> Reading {
+        Reading::new(self.tables.clone(), "1", self.area.len())
+    }
+}
+
+impl Workload for Reading {
+    fn run(&mut self, contender: Contender) -> Ended {
+        (contender.read_text)(&self.tables, &self.text, &mut self.area)
+    }
+
+    fn lent(&mut self) -> Vec<&mut [u8]> {
+        vec![&mut self.area]
+    }
+}
+
+/// What a bracket has before and behind what is in it.
+pub type Bracket = (&'static str, &'static str);
+
+/// Brackets of all kinds, which open in the first sum or the second, in the first product or a
+/// later one, and in the first unit or a later one.
+const BRACKETS: [Bracket; 9] = [
+    ("(", ")"),
+    ("T(", ")"),
+    ("H7(", ")"),
+    ("(", " # 1)"),
+    ("(1 [ ", ")"),
+    ("(1+", ")"),
+    ("(1.", ")"),
+    ("T(1+2.", "+3)"),
+    ("(1.2+3 | 1+2.", ".3+4)"),
+];
+
+/// An action in so many brackets, each within the one before; of those given, one after the other
+/// is used.
+fn deep_text(brackets: &[Bracket], depth: usize) -> String {
+    let levels = || brackets.iter().cycle().take(depth);
+    let before: String = levels().map(|(before, _)| *before).collect();
+    let mut behind: Vec<&str> = levels().map(|(_, behind)| *behind).collect();
+    behind.reverse();
+    format!("{before}1{}", behind.concat())
+}
+
+/// Texts with an action in so many brackets: for each kind of bracket alone, and for all of them
+/// in turns.
+pub fn deep_texts(depth: usize) -> Vec<String> {
+    let alone = BRACKETS.iter().map(|bracket| deep_text(&[*bracket], depth));
+    alone.chain([deep_text(&BRACKETS, depth)]).collect()
+}
+
+/// A text of so many words side by side in a sum, as often as a plan can have it.
+fn side_by_side(text: &str, words: usize) -> String {
+    let count = (LONGEST_PLAN + 1) / (words + 1);
+    vec![text; count].join("+")
+}
+
+/// The actions from the first to the last, again and again with this sign between them, as many as
+/// the longest plan has.
+fn actions_joined(first: u8, last: u8, sign: &str) -> String {
+    let actions = (first..=last).cycle().take(LONGEST_PLAN / 2);
+    let actions: Vec<String> = actions.map(|action| action.to_string()).collect();
+    actions.join(sign)
+}
+
+/// The words of the plans in the mixed one, at most.
+const MIXED: usize = 100;
+
+/// A sum of plans of all sorts, of as many words as a plan may have.
+fn mixed_plan(n: u8) -> Vec<u8> {
+    let random = &mut Random::new(1);
+    let mut whole = small_plan(random, n, MIXED);
+    while whole.len() + MIXED + 3 < LONGEST_PLAN {
+        whole.extend(small_plan(random, n, MIXED));
+        whole.push(CHOICE);
+    }
+    let rest = LONGEST_PLAN - 1 - whole.len();
+    whole.extend(plan(random, n, rest));
+    whole.push(CHOICE);
+    whole
+}
+
+/// The texts measured, each with its name; their plans are as long as can be.
+pub fn texts() -> Vec<(&'static str, Reading)> {
+    // These four bring six words: one, one, two and two.
+    let kinds = [("T(", ")"), ("H0(", ")"), ("(1 # ", ")"), ("(", " < 2)")];
+    let deep = deep_text(&kinds, DEEPEST);
+    let deep_words = 1 + DEEPEST / 4 * 6;
+    let plain = deep_text(&[("(", ")")], DEEPEST);
+    let mixed = typed(&mixed_plan(4));
+    let mixed = String::from_utf8(mixed).expect("texts are of plain characters");
+    let long = |text: &str| Reading::new(trial_tables(), text, LONGEST_PLAN);
+    vec![
+        ("sum", long(&actions_joined(1, 4, "+"))),
+        (
+            "sum, two digits",
+            Reading::new(sum_tables(), &actions_joined(10, 31, "+"), LONGEST_PLAN),
+        ),
+        ("product", long(&actions_joined(1, 4, "."))),
+        ("deep, all kinds", long(&side_by_side(&deep, deep_words))),
+        ("deep, `(s)` alone", long(&side_by_side(&plain, 1))),
+        ("typed plans", long(&mixed)),
+    ]
+}
+
 #[cfg(test)]
 mod tests {
     use super::*;
@@ -404,6 +530,25 @@ mod tests {
             for words in sizes() {
                 let mut replay = Replay::new(words, places, 10);
                 assert_eq!(replay.run(PLAIN), (0, 8, words - 1));
+            }
+        }
+    }
+
+    #[test]
+    fn texts_are_of_nearly_the_longest_plans() {
+        for (name, mut reading) in texts() {
+            let (number, _, words) = reading.run(PLAIN);
+            assert_eq!(number, 0, "{name}");
+            assert!(words > LONGEST_PLAN - 100, "{name}: {words}");
+        }
+    }
+
+    #[test]
+    fn deep_texts_are_as_deep_as_is_allowed() {
+        for (depth, number) in [(DEEPEST, 0), (DEEPEST + 1, 62)] {
+            for text in deep_texts(depth) {
+                let mut reading = Reading::new(trial_tables(), &text, LONGEST_PLAN);
+                assert_eq!(reading.run(PLAIN).0, number, "{text}");
             }
         }
     }

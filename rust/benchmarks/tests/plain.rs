@@ -3,11 +3,12 @@
 
 use benchmarks::contenders::{Contender, PLAIN, REFERENCE};
 use benchmarks::plain;
-use benchmarks::workloads::{stopped_merges, Unfolding, Workload, MERGES, STOPPED_CHAINS};
+use benchmarks::workloads::{stopped_merges, texts, Unfolding, Workload, MERGES, STOPPED_CHAINS};
 use differential::{compare, Answer, Call, Implementation, Reference};
 use reference::plans::LONGEST_PLAN;
 
-/// The plain version's unfolding and checker; the other calls are the reference's.
+/// The plain version's unfolding, checker and reader of texts; the other calls are the
+/// reference's.
 struct Plain;
 
 impl Implementation for Plain {
@@ -18,6 +19,9 @@ impl Implementation for Plain {
             }
             Call::CheckRewriting(tables, start, claimed, rewriting, a, b) => {
                 plain::check_rewriting(tables, start, claimed, rewriting, a, b).into()
+            }
+            Call::ReadText(tables, text, plan_area) => {
+                Answer::counted(plain::read_text(tables, text, plan_area))
             }
             other => Reference.answer(other),
         }
@@ -44,6 +48,26 @@ fn long_plans_agree_with_the_reference() {
         same(&mut merge.longest(2, LONGEST_PLAN).1, REFERENCE);
     }
     same(&mut stopped_merges(STOPPED_CHAINS[0]), REFERENCE);
+}
+
+/// The texts of the benchmark.
+#[test]
+fn texts_agree_with_the_reference() {
+    for (name, mut reading) in texts() {
+        let same = reading.outcome(PLAIN) == reading.outcome(REFERENCE);
+        assert!(same, "{name}");
+    }
+}
+
+/// The texts of the benchmark.
+#[cfg(feature = "archive")]
+#[test]
+fn texts_agree_with_the_proved_library() {
+    let proved = benchmarks::contenders::PROVED.expect("the archive is linked");
+    for (name, mut reading) in texts() {
+        let same = reading.outcome(PLAIN) == reading.outcome(proved);
+        assert!(same, "{name}");
+    }
 }
 
 /// The longest plans of the benchmark, finished, and ended by the allowance.

@@ -59,7 +59,7 @@ impl Answer {
     }
 
     /// One number, or a refusal.
-    pub(crate) fn counted(result: Result<usize, Refusal>) -> Answer {
+    pub fn counted(result: Result<usize, Refusal>) -> Answer {
         match result {
             Ok(value) => Answer::ended(0, [value, 0]),
             Err(refusal) => Answer::refused(refusal),

@@ -10,6 +10,7 @@ use reference::random::cases::{
 use reference::random::plans::{basic_plan, plan};
 use reference::random::rewritings::{damage_rewriting, derivation};
 use reference::random::tables::{damaged_tables, lawful_tables};
+use reference::random::texts::{long_text, text_case, text_case_of, TextCase};
 use reference::random::Random;
 use reference::stations::{program, write_station};
 use reference::tables::trial_tables;
@@ -37,6 +38,8 @@ pub enum Case {
     Reached(ReachedCase),
     /// A station file to list.
     ListStation(ListCase),
+    /// A plan typed in signs to read.
+    ReadText(TextCase),
 }
 
 /// What is handed to the unfolding with a check.
@@ -97,7 +100,7 @@ impl Case {
     /// The case of this seed.
     pub fn draw(seed: u64) -> Case {
         let random = &mut Random::new(seed);
-        match random.below(20) {
+        match random.below(23) {
             0 => Case::JudgeTables(any_tables(random)),
             1 | 2 => {
                 let (tables, plan) = handed_in(random);
@@ -123,7 +126,8 @@ impl Case {
             14 | 15 => Case::ReadStation(any_station(random)),
             16 | 17 => Case::UnfoldChecked(any_checked(random)),
             18 => Case::Reached(any_reached(random)),
-            _ => Case::ListStation(any_listing(random)),
+            19 => Case::ListStation(any_listing(random)),
+            _ => Case::ReadText(any_text(random)),
         }
     }
 
@@ -161,6 +165,7 @@ impl Case {
                 Call::Reached(&case.a, &case.b, case.steps, case.size, plan)
             }
             (Case::ListStation(case), [out]) => Call::ListStation(&case.file, out),
+            (Case::ReadText(case), [plan]) => Call::ReadText(&case.tables, &case.text, plan),
             _ => unreachable!("each case lends what its call takes"),
         };
         let answer = implementation.answer(call);
@@ -185,6 +190,7 @@ impl Case {
             }
             Case::Reached(case) => vec![&case.plan],
             Case::ListStation(case) => vec![&case.out],
+            Case::ReadText(case) => vec![&case.plan],
             _ => Vec::new(),
         }
     }
@@ -351,6 +357,20 @@ fn wide_unfolding(random: &mut Random) -> Vec<u8> {
     let mut plan: Vec<u8> = (0..actions).map(|_| random.pick(&[1, 2, 3, 4])).collect();
     plan.extend(vec![66; actions - 1]);
     write_station(&trial_tables(), &plan)
+}
+
+/// A text of any kind, or one whose plan is about as long as a plan may be, at times with a
+/// character too much: such a fault counts before the length.
+fn any_text(random: &mut Random) -> TextCase {
+    if !random.once_in(LONG_ONCE_IN) {
+        return text_case(random);
+    }
+    let tables = lawful_tables(random);
+    let mut told = long_text(random, tables[0]);
+    if random.once_in(3) {
+        told.text.push(random.pick(b"+.() "));
+    }
+    text_case_of(random, tables, told)
 }
 
 /// Any tables and plan, or lawful tables and a plan that is basic or differs from a basic one

@@ -1,7 +1,7 @@
 //! What is compared: implementations of the calls.
 
 use crate::answers::Answer;
-use reference::{checking, own, plans, runs, stations, tables, unfolding};
+use reference::{checking, own, plans, runs, stations, tables, texts, unfolding};
 
 /// One call, with what is handed to it in the order of its parameters. It may change the mutable
 /// slices alone.
@@ -51,6 +51,8 @@ pub enum Call<'c> {
     ReadStation(&'c [u8], &'c mut [u8], &'c mut [u8]),
     /// Lists a station file in an area; answers the listing's size.
     ListStation(&'c [u8], &'c mut [u8]),
+    /// Reads a plan typed in signs: tables, text, plan area; answers the plan's size.
+    ReadText(&'c [u8], &'c [u8], &'c mut [u8]),
 }
 
 /// Whatever answers all calls. One that has only some of them hands the others on to another one.
@@ -97,6 +99,9 @@ impl Implementation for Reference {
                 Answer::counted(stations::read_station(file, tables_area, plan_area))
             }
             Call::ListStation(file, out) => Answer::handed(stations::list_station(file, out)),
+            Call::ReadText(tables, text, plan_area) => {
+                Answer::counted(texts::read_text(tables, text, plan_area))
+            }
         }
     }
 }
@@ -131,6 +136,9 @@ impl Implementation for Proved {
                 raw::read_station(file, tables_area, plan_area).into()
             }
             Call::ListStation(file, out) => raw::list_station(file, out).into(),
+            Call::ReadText(tables, text, plan_area) => {
+                raw::read_text(tables, text, plan_area).into()
+            }
         }
     }
 }

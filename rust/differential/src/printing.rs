@@ -74,6 +74,12 @@ impl fmt::Display for Case {
                 writeln!(f, "  file: {}", Sparse(&case.file))?;
                 writeln!(f, "  out: {}", Bytes(&case.out))
             }
+            Case::ReadText(case) => {
+                writeln!(f, "read_text")?;
+                writeln!(f, "  tables: {}", Sparse(&case.tables))?;
+                writeln!(f, "  text: \"{}\"", case.text.escape_ascii())?;
+                writeln!(f, "  plan area: {}", Bytes(&case.plan))
+            }
         }
     }
 }

@@ -1,11 +1,14 @@
 //! Making a case smaller while it keeps what makes it interesting.
 
 use crate::cases::{Case, CheckedCase, ListCase, ReachedCase};
-use reference::plans::{judge, operands, subplan};
+use reference::plans::{judge, operands, subplan, LONGEST_PLAN};
 use reference::random::cases::{CheckCase, StationCase, UnfoldCase};
+use reference::random::texts::TextCase;
 use reference::stations::{read_station, write_station};
 use reference::tables::{trial_tables, TABLES_LENGTH};
+use reference::texts::{read_text, typed};
 use reference::unfolding::RECORD;
+use std::iter;
 
 /// How many cases are tried at most.
 const MOST_TRIES: usize = 3000;
@@ -43,6 +46,7 @@ fn smaller(case: &Case) -> Vec<Case> {
         Case::UnfoldChecked(case) => smaller_checked(case),
         Case::Reached(case) => smaller_reached(case),
         Case::ListStation(case) => smaller_listings(case),
+        Case::ReadText(case) => smaller_readings(case),
     };
     found.retain(|case| weight(case) < size);
     found
@@ -73,6 +77,7 @@ fn weight(case: &Case) -> u64 {
             numbers + bytes(&[&case.a, &case.b]) + unlike(&[&case.plan])
         }
         Case::ListStation(case) => bytes(&[&case.file]) + unlike(&[&case.out]),
+        Case::ReadText(case) => bytes(&[&case.tables, &case.text]) + unlike(&[&case.plan]),
     }
 }
 
@@ -179,6 +184,21 @@ fn smaller_listings(case: &ListCase) -> Vec<Case> {
     each(changed.found, Case::ListStation)
 }
 
+fn smaller_readings(case: &TextCase) -> Vec<Case> {
+    let changed = Changed::of(case)
+        .with(smaller_lent(&case.plan), |case, plan| case.plan = plan)
+        .with(smaller_told(&case.text), |case, (text, less)| {
+            let area = case.plan.len().saturating_sub(less);
+            case.text = text;
+            case.plan.truncate(area);
+        })
+        .with(smaller_texts(&case.text), |case, text| case.text = text)
+        .with(smaller_tables(&case.tables), |case, tables| {
+            case.tables = tables
+        });
+    each(changed.found, Case::ReadText)
+}
+
 fn smaller_checks(case: &CheckCase) -> Vec<Case> {
     let rewritings = smaller_rewritings(&case.rewriting);
     let changed = Changed::of(case)
@@ -270,6 +290,51 @@ fn smaller_plans(plan: &[u8]) -> Vec<Vec<u8>> {
         );
         for at in 0..plan.len().min(64) {
             found.push([&plan[..at], &plan[at + 1..]].concat());
+        }
+    }
+    found
+}
+
+/// Of a text without fault, the texts of smaller plans, so that brackets go in pairs, the shortest
+/// first: each with how many words it has less, and with none, for an area that stays as it is.
+fn smaller_told(text: &[u8]) -> Vec<(Vec<u8>, usize)> {
+    let mut plan = vec![0; LONGEST_PLAN];
+    let Ok(size) = read_text(&any_actions(), text, &mut plan) else {
+        return Vec::new();
+    };
+    let mut plans = smaller_plans(&plan[..size]);
+    plans.sort_by_key(Vec::len);
+    let told = plans.iter().map(|plan| (typed(plan), size - plan.len()));
+    told.flat_map(|(text, less)| [(text.clone(), less), (text, 0)])
+        .collect()
+}
+
+/// Beginnings, the text without its letters, and the text with some characters left out, as many
+/// as a half at first and one at last; an even number before, so that a sum of actions stays one.
+fn smaller_texts(text: &[u8]) -> Vec<Vec<u8>> {
+    let beginnings = smaller_numbers(text.len()).into_iter();
+    let mut found: Vec<Vec<u8>> = beginnings.map(|length| text[..length].to_vec()).collect();
+    found.push(without_letters(text));
+    let halves = iter::successors(Some(text.len()), |length| Some(length / 2));
+    let parts = halves.skip(1).take_while(|&length| length > 0);
+    for part in parts.map(|length| length.max(2) / 2 * 2).chain([1]) {
+        for from in (0..text.len()).step_by(part).take(64) {
+            let to = text.len().min(from + part);
+            found.push([&text[..from], &text[to..]].concat());
+        }
+    }
+    found
+}
+
+/// The text without every `T`, and every `H` with what is behind it.
+fn without_letters(text: &[u8]) -> Vec<u8> {
+    let mut found = Vec::new();
+    let mut characters = text.iter();
+    while let Some(&character) = characters.next() {
+        match character {
+            b'T' => {}
+            b'H' => drop(characters.next()),
+            _ => found.push(character),
         }
     }
     found

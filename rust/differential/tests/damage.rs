@@ -63,11 +63,33 @@ enum Damage {
     ListRoom,
     /// The area is not cleared behind the listing.
     ListFilling,
+    /// `<` is read as `|`.
+    TextSign,
+    /// 199 brackets may be open at once instead of 200.
+    TextDepth,
+    /// The place of a bracket that goes too deep is that of the letter before it.
+    TextLetter,
+    /// A text that ends too early is refused at its last character.
+    TextEnd,
+    /// A digit behind a first 0 is refused at the 0.
+    TextZero,
+    /// An action of two digits above n is refused at its second digit.
+    TextDigit,
+    /// A plan that is too long without the text's last character counts before a fault there.
+    TextOrder,
+    /// An empty text is refused before the tables.
+    TextTables,
+    /// An area of exactly the plan's size is too short for it.
+    TextRoom,
+    /// The area is not cleared behind the plan.
+    TextFilling,
+    /// The area is cleared where the plan is too long for it.
+    TextKeeping,
 }
 
 use Damage::*;
 
-const ALL: [Damage; 27] = [
+const ALL: [Damage; 38] = [
     MostActions,
     TripleWeight,
     LongestPlan,
@@ -95,6 +117,17 @@ const ALL: [Damage; 27] = [
     CopyRoom,
     ListRoom,
     ListFilling,
+    TextSign,
+    TextDepth,
+    TextLetter,
+    TextEnd,
+    TextZero,
+    TextDigit,
+    TextOrder,
+    TextTables,
+    TextRoom,
+    TextFilling,
+    TextKeeping,
 ];
 
 /// The reference with damage.
@@ -320,6 +353,67 @@ impl Damaged {
         }
         answer
     }
+
+    fn read_text(&self, tables: &[u8], text: &[u8], plan_area: &mut [u8]) -> Answer {
+        let before = plan_area.to_vec();
+        let mut answer = Reference.answer(Call::ReadText(tables, text, plan_area));
+        let (size, place) = (answer.values[0], answer.place);
+        // What stands at places from the refused one on.
+        let character = |behind: usize| text.get(place + behind).copied().unwrap_or(0);
+        match (self.0, answer.number) {
+            (TextSign, 0) => {
+                let unless = plan_area[..size].iter_mut().filter(|word| **word == 69);
+                unless.for_each(|word| *word = 68);
+            }
+            (TextDepth, 0) => {
+                if let Some(place) = deep_bracket(text) {
+                    plan_area.copy_from_slice(&before);
+                    return Answer {
+                        place,
+                        ..refusal(62)
+                    };
+                }
+            }
+            (TextLetter, 62) if text[place - 1] == b'T' => answer.place -= 1,
+            (TextEnd, 61) if place == text.len() => answer.place = place.saturating_sub(1),
+            (TextZero, 61) if text[..place].ends_with(b"0") && character(0).is_ascii_digit() => {
+                answer.place -= 1;
+            }
+            (TextDigit, 61) if character(0).is_ascii_digit() && character(1).is_ascii_digit() => {
+                answer.place += 1;
+            }
+            (TextOrder, 61) if !text.is_empty() => {
+                let without = &text[..text.len() - 1];
+                let other = Reference.answer(Call::ReadText(tables, without, plan_area));
+                plan_area.copy_from_slice(&before);
+                if other.number == 63 {
+                    return other;
+                }
+            }
+            (TextTables, 1..=8) if text.is_empty() => return refusal(61),
+            (TextRoom, 0) if size == before.len() => {
+                plan_area.copy_from_slice(&before);
+                return refusal(63);
+            }
+            (TextFilling, 0) => plan_area[size..].copy_from_slice(&before[size..]),
+            (TextKeeping, 63) => plan_area.fill(0),
+            _ => {}
+        }
+        answer
+    }
+}
+
+/// The place of the first bracket that is open in 199 others.
+fn deep_bracket(text: &[u8]) -> Option<usize> {
+    let mut open = 0;
+    text.iter().position(|character| {
+        match character {
+            b'(' => open += 1,
+            b')' => open -= 1,
+            _ => {}
+        }
+        open == 200
+    })
 }
 
 impl Implementation for Damaged {
@@ -345,6 +439,7 @@ impl Implementation for Damaged {
                 self.read_station(file, tables_area, plan_area)
             }
             Call::ListStation(file, out) => self.list_station(file, out),
+            Call::ReadText(tables, text, plan_area) => self.read_text(tables, text, plan_area),
         }
     }
 }
@@ -355,8 +450,8 @@ fn an_undamaged_copy_agrees() {
     assert_eq!(agreement.numbers.values().sum::<u64>(), 4000);
     // Every number but some rare ones comes up.
     let met: Vec<u8> = agreement.numbers.into_keys().collect();
-    let listed = (1..=8).chain(11..=18).chain(31..=36).chain(51..=55);
-    for number in listed {
+    let listed = [1..=8, 11..=18, 31..=36, 51..=55, 61..=63];
+    for number in listed.into_iter().flatten() {
         assert!(met.contains(&number), "{number}");
     }
 }
@@ -364,7 +459,7 @@ fn an_undamaged_copy_agrees() {
 #[test]
 fn every_damage_is_found() {
     for damage in ALL {
-        let found = compare(&Reference, &Damaged(damage), 40_000, 2);
+        let found = compare(&Reference, &Damaged(damage), 40_000, 3);
         let difference = found.expect_err(&format!("{damage:?} is found"));
         assert_ne!(difference.first, difference.second, "{damage:?}");
     }
@@ -385,6 +480,22 @@ fn a_difference_is_made_small_and_printed() {
     assert!(printed.contains("allowance: 1\n"), "{printed}");
     assert!(printed.contains("  first: number 35, values [0, "));
     assert!(printed.contains("  second: number 34, values [0, "));
+}
+
+#[test]
+fn a_text_is_made_small_and_printed() {
+    let difference = compare(&Reference, &Damaged(TextSign), 10_000, 3).unwrap_err();
+    let Case::ReadText(case) = &difference.case else {
+        panic!("{difference}");
+    };
+    assert_eq!((case.text.len(), case.plan.len()), (7, 3), "{difference}");
+    let printed = difference.to_string();
+    assert!(printed.contains("  text: \"("), "{printed}");
+    assert!(printed.contains(" < "), "{printed}");
+    // A fault of a long text needs few of its characters.
+    let difference = compare(&Reference, &Damaged(TextZero), 10_000, 3).unwrap_err();
+    let printed = difference.to_string();
+    assert!(printed.contains("  text: \"00\"\n"), "{printed}");
 }
 
 #[test]
@@ -437,4 +548,45 @@ fn every_kind_of_listing_is_drawn() {
     }
     let kinds: Vec<&str> = met.iter().map(String::as_str).collect();
     assert_eq!(kinds, ["end 0", "end 34", "end 36", "refused", "short"]);
+}
+
+#[test]
+fn every_kind_of_text_is_drawn() {
+    let (mut met, mut longest) = (BTreeSet::new(), 0);
+    for seed in 0..8000 {
+        let case = Case::draw(seed);
+        let Case::ReadText(text) = &case else {
+            continue;
+        };
+        let answer = case.run(&Reference).answer;
+        let (text, room) = (&text.text, text.plan.len());
+        longest = longest.max(answer.values[0]);
+        met.insert(match answer.number {
+            1..=8 => "tables",
+            0 if answer.values[0] == room => "read, the area full",
+            0 => "read",
+            61 if answer.place == text.len() => "ends early",
+            61 if text[answer.place].is_ascii_digit() => "no action",
+            61 => "no character",
+            62 => "too deep",
+            63 if room < 16_384 => "too long for the area",
+            _ => "too long",
+        });
+    }
+    let kinds: Vec<&str> = met.into_iter().collect();
+    assert_eq!(
+        kinds,
+        [
+            "ends early",
+            "no action",
+            "no character",
+            "read",
+            "read, the area full",
+            "tables",
+            "too deep",
+            "too long",
+            "too long for the area"
+        ]
+    );
+    assert_eq!(longest, 16_384);
 }

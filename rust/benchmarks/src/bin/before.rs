@@ -200,6 +200,7 @@ mod before {
                 )
             })
         },
+        read_text: |_, _, _| panic!("texts are not read by the earlier library"),
     };
 
     /// Makes a call that sets steps, size and place.

@@ -8,11 +8,12 @@
 use aberulwy::{raw, LONGEST_LISTING};
 use benchmarks::contenders::PROVED;
 use benchmarks::workloads::{
-    long_sum, stopped_merges, Places, Replay, Workload, MERGES, STOPPED_CHAINS,
+    deep_texts, long_sum, stopped_merges, Places, Replay, Workload, MERGES, STOPPED_CHAINS,
 };
 use reference::plans::LONGEST_PLAN;
 use reference::stations::write_station;
 use reference::tables::{trial_tables, TABLES_LENGTH};
+use reference::texts::DEEPEST;
 use reference::unfolding::RECORD;
 use std::env::{args, current_exe};
 use std::process::{Command, Stdio};
@@ -22,7 +23,7 @@ use std::thread::Builder;
 const ENOUGH: usize = 4096;
 /// A thread that asks for less may get more, so less is not tried.
 const LITTLE: usize = 32;
-const CALLS: [&str; 10] = [
+const CALLS: [&str; 11] = [
     "judge_tables",
     "judge_plan",
     "is_basic",
@@ -33,6 +34,7 @@ const CALLS: [&str; 10] = [
     "check_rewriting",
     "read_station",
     "list_station",
+    "read_text",
 ];
 
 fn main() {
@@ -79,7 +81,8 @@ fn attempt(call: &str, kib: usize) {
     assert_eq!(number.expect("the call ends"), 0, "the number of {call}");
 }
 
-/// A call with all that it is handed; it answers its number.
+/// A call with all that it is handed; it answers its number, or 0 where several calls end as they
+/// should.
 fn prepared(call: &str) -> Box<dyn FnOnce() -> u8 + Send> {
     let (tables, plan) = (trial_tables(), long_sum(LONGEST_PLAN));
     let proved = PROVED.expect("the archive is linked");
@@ -120,6 +123,18 @@ fn prepared(call: &str) -> Box<dyn FnOnce() -> u8 + Send> {
             let file = write_station(&tables, &MERGES[0].plan(2, 20));
             let mut out = vec![0; LONGEST_LISTING];
             Box::new(move || raw::list_station(&file, &mut out).number)
+        }
+        "read_text" => {
+            // Texts as deep as is allowed, which are read, and one deeper, which are refused.
+            let (read, refused) = (deep_texts(DEEPEST), deep_texts(DEEPEST + 1));
+            let mut area = vec![0; LONGEST_PLAN];
+            Box::new(move || {
+                let mut number =
+                    |text: &String| raw::read_text(&tables, text.as_bytes(), &mut area).number;
+                let right = read.iter().all(|text| number(text) == 0)
+                    && refused.iter().all(|text| number(text) == 62);
+                u8::from(!right)
+            })
         }
         _ => panic!("no call {call}"),
     }

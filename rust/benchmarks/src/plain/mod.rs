@@ -3,9 +3,10 @@
 //! The unfolding works on a graph of terms alone, the checker on a gap buffer alone. Each file
 //! uses only files before it in its row, and those of the first row:
 //!
-//! - both: `areas`
+//! - the unfolding and the checker: `areas`
 //! - the checker: `words`, `word_laws`, `gap`, `checking`
 //! - the unfolding: `records`, `graph`, `graph_laws`, `graph_steps`, `unfolding`
+//! - the reader of texts, which uses none of them: `texts`
 
 mod areas;
 mod checking;
@@ -14,9 +15,11 @@ mod graph;
 mod graph_laws;
 mod graph_steps;
 mod records;
+mod texts;
 mod unfolding;
 mod word_laws;
 mod words;
 
 pub use checking::check_rewriting;
+pub use texts::read_text;
 pub use unfolding::unfold;
