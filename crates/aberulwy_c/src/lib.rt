@@ -408,8 +408,8 @@ pub extern "C" fn aberulwy_read_text(
     *size = 0;
     *place = 0;
     match aberulwy::read_text(tables, text, plan) {
-        TextRead::Read { size: length } => {
-            *size = length;
+        TextRead::Read { size: words } => {
+            *size = words;
             0
         }
         TextRead::Refused(refusal) => refuse(refusal, place),

@@ -12,8 +12,8 @@ use Rattle.aberulwy_c.proofs.aberulwy_read_text.Tie as tie
 read-text-requires : tie.Need-read-text-requires
 read-text-requires c κs = search needs
 
-enum-known-length : tie.Need-enum-known-length
-enum-known-length c = search needs
+enum-known-words : tie.Need-enum-known-words
+enum-known-words c = search needs
 
 enum-known-refusal : tie.Need-enum-known-refusal
 enum-known-refusal c = search needs
@@ -27,7 +27,7 @@ same-length c = search needs
 returns : tie.Need-returns
 returns c =
     let u = c .before .before .before .before .before .read-text .ensures in
-    let a = said text-report _ (c .before .length .given .1) refl in
+    let a = said text-report _ (c .before .words .given .1) refl in
     (returned-1 _ a ∙ ap of-text (u .0), text-seen _ _ _ (u .0) (u .1 .1) a)
 
 same-length-2 : tie.Need-same-length-2
@@ -45,7 +45,7 @@ aberulwy-read-text-spec =
     tie.close
     (tie.spec
     read-text-requires
-    enum-known-length
+    enum-known-words
     enum-known-refusal
     refuse-requires
     same-length
