@@ -3,8 +3,8 @@
  * What is returned: a number of docs/NUMBERS.md, 0 where nothing is refused and nothing stops the call. aberulwy_reached and aberulwy_list_station,
  * which have no number there, return 0, or 1 where the area handed in is too short. All else that a call answers is in its out numbers (size_t *),
  * each of which is set in every case: *place is the printed form of the place (a byte's index, a step's index, or 1024 a + 32 b + c for a triple of
- * actions; 0 where none is named), and the others are 0 where the call is refused. docs/FORMATS.md has the bytes of tables, plans, rewritings and
- * station files.
+ * actions; 0 where none is named), and the others are 0 where the call is refused. docs/FORMATS.md has the bytes of tables, plans, texts, rewritings
+ * and station files.
  *
  * A call takes slices of any length, each a pointer and a length. It reads and writes nothing but these and its out numbers, and it ends. What it
  * may write to must not overlap anything else handed to it, and no pointer may be null, even where its length is 0.

@@ -36,8 +36,8 @@
 //! A plan may be typed in signs too, as `H0((1 # 2).3)`: [`read_text`] tells the signs, and turns
 //! such a text into words.
 //!
-//! The repository's `docs/FORMATS.md` draws tables, plans, rewritings, areas and station files,
-//! and `docs/NUMBERS.md` lists the words, the laws, the endings and the refusals.
+//! The repository's `docs/FORMATS.md` draws tables, plans, texts, rewritings, areas and station
+//! files, and `docs/NUMBERS.md` lists the words, the laws, the endings and the refusals.
 //!
 //! # Stack
 //!
