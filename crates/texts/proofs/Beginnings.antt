@@ -12,9 +12,9 @@ use borrow.Author.Tests.{ltb-true, ltb-false}
 use Rattle.grammar.specs.declared.Bracket.{Bracket}
 use Rattle.grammar.specs.declared.Bracket.the-variants.{Plain, OfPriority, OfSet}
 use Rattle.grammar.specs.Character.{opening, tee, aitch}
-use Rattle.texts.specs.Readers.{Digits-read, Unit-stops, Enters, next-is, next-numeral, Set-small, opened, Acts, Begun-right}
+use Rattle.texts.specs.Readers.{Unit-stops, Enters, next-is, next-numeral, Set-small, opened, Acts, Begun-right}
 use Rattle.texts.specs.declared.units.Begun.the-variants.{Opened, Stopped}
-use Rattle.texts.proofs.Rules.{number-begins, number-goes-on, number-above, number-grows-above, number-nought, number-ends, unit-sticks, unit-missing, bracket-enters, priority-enters, set-enters, bracket-deep, priority-deep, set-deep, tee-alone, aitch-alone, set-alone}
+use Rattle.texts.proofs.Rules.{Digits-read, number-begins, number-goes-on, number-above, number-grows-above, number-nought, number-ends, unit-sticks, unit-missing, bracket-enters, priority-enters, set-enters, bracket-deep, priority-deep, set-deep, tee-alone, aitch-alone, set-alone}
 use Rattle.texts.proofs.Next.{is-there, numeral-is-there, numeral-small}
 
 module _ (n d : ℕ) (text : List ℕ) (q : ℕ) where

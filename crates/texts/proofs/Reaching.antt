@@ -23,41 +23,44 @@ use Rattle.texts.proofs.Endings.{not-closed}
 pub reached-few : {Reads : ℕ → List ℕ → List ℕ → Type 0} {text a a′ : List ℕ} {q m j m′ : ℕ} → Reached Reads text a a′ q m j m′ → m′ + q ≤ m + j
 reached-few x = omega (arith, x .few, x .stored .counted)
 
+-- the same place and the same words, with another thing said of them
+reached-as : {A B : ℕ → List ℕ → List ℕ → Type 0} {text a a′ : List ℕ} {q m j m′ : ℕ} (x : Reached A text a a′ q m j m′) → B j (drop j text) (x .out)
+    → Reached B text a a′ q m j m′
+reached-as x e = record { out = x .out; is-read = e; stored = x .stored; on = x .on; inside = x .inside; few = x .few }
+
+-- one reader behind another, with a character between them, and a sign stored behind the words of both
+reached-joined : {A B C : ℕ → List ℕ → List ℕ → Type 0} {text a b c e : List ℕ} {q m h k j m′ m″ s : ℕ} (x : Reached A text a b q m h k)
+    (y : Reached B text b c (h + 1) k j m′) → Stored c e m′ m″ (s ∷ []) → C j (drop j text) (x .out ++ (y .out ++ (s ∷ []))) → Reached C text a e q m j m″
+reached-joined {s} x y z e =
+    let u = x .out in
+    let v = y .out in
+    record {
+      out = u ++ (v ++ (s ∷ []));
+      is-read = e;
+      stored = stored-more (x .stored) (stored-more (y .stored) z);
+      on = omega (arith, x .on, y .on);
+      inside = y .inside;
+      few = omega (arith, x .few, y .few, length-append u (v ++ (s ∷ [])), length-append v (s ∷ []));
+    }
+
 module _ (n d : ℕ) (text : List ℕ) (q : ℕ) where
   -- some units of a product
   abbrev pub Units : ℕ → List ℕ → List ℕ → Type 0
   Units j r w = Product-reads n d q (drop q text) j r w
 
   pub units-begin : {a a′ : List ℕ} {m j m′ : ℕ} → Reached (Unit-to n d text q) text a a′ q m j m′ → Reached Units text a a′ q m j m′
-  units-begin {j} x =
-      record {
-        out = x .out;
-        is-read = product-begins n d q j (drop q text) (drop j text) (x .out) (x .is-read);
-        stored = x .stored;
-        on = x .on;
-        inside = x .inside;
-        few = x .few;
-      }
+  units-begin {j} x = reached-as x (product-begins n d q j (drop q text) (drop j text) (x .out) (x .is-read))
 
   pub units-go-on : {a b c e : List ℕ} {m h k j m′ m″ : ℕ} → d ≤ 200 → Reached Units text a b q m h k → next-is dot (drop h text) ≡ true
       → Reached (Unit-to n d text (h + 1)) text b c (h + 1) k j m′ → Stored c e m′ m″ (65 ∷ []) → Reached Units text a e q m j m″
   units-go-on {h} {j} l x g y s =
       let i = is-there text h dot g in
-      let u = x .out in
-      let v = y .out in
-      record {
-        out = u ++ (v ++ (65 ∷ []));
-        is-read =
-            product-goes-on n d q h j (drop q text) (drop (suc h) text) (drop j text) u v l
-            (subst (λ r. Product-reads n d q (drop q text) h r u) (i .left) (x .is-read)) (rw (add-one h) at (y .is-read));
-        stored = stored-more (x .stored) (stored-more (y .stored) s);
-        on = omega (arith, x .on, y .on);
-        inside = y .inside;
-        few = omega (arith, x .few, y .few, length-append u (v ++ (65 ∷ [])), length-append v (65 ∷ []));
-      }
+      reached-joined x y s
+      (product-goes-on n d q h j (drop q text) (drop (suc h) text) (drop j text) (x .out) (y .out) l
+      (subst (λ r. Product-reads n d q (drop q text) h r (x .out)) (i .left) (x .is-read)) (rw (add-one h) at (y .is-read)))
 
   pub units-end : {a a′ : List ℕ} {m j m′ : ℕ} → Reached Units text a a′ q m j m′ → next-is dot (drop j text) ≡ false → Reached (Product-to n d text q) text a a′ q m j m′
-  units-end x e = record { out = x .out; is-read = (x .is-read, e); stored = x .stored; on = x .on; inside = x .inside; few = x .few }
+  units-end x e = reached-as x (x .is-read, e)
 
   pub units-stop : {a b : List ℕ} {m h k c f : ℕ} → d ≤ 200 → Reached Units text a b q m h k → next-is dot (drop h text) ≡ true
       → Unit-stops n d (h + 1) (drop (h + 1) text) c f → Product-stops n d q (drop q text) c f
@@ -71,37 +74,20 @@ module _ (n d : ℕ) (text : List ℕ) (q : ℕ) where
   Products j r w = Sum-reads n d q (drop q text) j r w × (next-is dot r ≡ false)
 
   pub products-begin : {a a′ : List ℕ} {m j m′ : ℕ} → Reached (Product-to n d text q) text a a′ q m j m′ → Reached Products text a a′ q m j m′
-  products-begin {j} x =
-      record {
-        out = x .out;
-        is-read = (sum-begins n d q j (drop q text) (drop j text) (x .out) (x .is-read .0), x .is-read .1);
-        stored = x .stored;
-        on = x .on;
-        inside = x .inside;
-        few = x .few;
-      }
+  products-begin {j} x = reached-as x (sum-begins n d q j (drop q text) (drop j text) (x .out) (x .is-read .0), x .is-read .1)
 
   pub products-go-on : {a b c e : List ℕ} {m h k j m′ m″ : ℕ} → d ≤ 200 → Reached Products text a b q m h k → next-is plus (drop h text) ≡ true
       → Reached (Product-to n d text (h + 1)) text b c (h + 1) k j m′ → Stored c e m′ m″ (64 ∷ []) → Reached Products text a e q m j m″
   products-go-on {h} {j} l x g y s =
       let i = is-there text h plus g in
-      let u = x .out in
-      let v = y .out in
-      record {
-        out = u ++ (v ++ (64 ∷ []));
-        is-read = (
-          sum-goes-on n d q h j (drop q text) (drop (suc h) text) (drop j text) u v l
-              (subst (λ r. Sum-reads n d q (drop q text) h r u) (i .left) (x .is-read .0)) (rw (add-one h) at (y .is-read .0)) (y .is-read .1),
-          y .is-read .1,
-        );
-        stored = stored-more (x .stored) (stored-more (y .stored) s);
-        on = omega (arith, x .on, y .on);
-        inside = y .inside;
-        few = omega (arith, x .few, y .few, length-append u (v ++ (64 ∷ [])), length-append v (64 ∷ []));
-      }
+      reached-joined x y s (
+        sum-goes-on n d q h j (drop q text) (drop (suc h) text) (drop j text) (x .out) (y .out) l
+            (subst (λ r. Sum-reads n d q (drop q text) h r (x .out)) (i .left) (x .is-read .0)) (rw (add-one h) at (y .is-read .0)) (y .is-read .1),
+        y .is-read .1,
+      )
 
   pub products-end : {a a′ : List ℕ} {m j m′ : ℕ} → Reached Products text a a′ q m j m′ → next-is plus (drop j text) ≡ false → Reached (Sum-to n d text q) text a a′ q m j m′
-  products-end x e = record { out = x .out; is-read = (x .is-read .0, x .is-read .1, e); stored = x .stored; on = x .on; inside = x .inside; few = x .few }
+  products-end x e = reached-as x (x .is-read .0, x .is-read .1, e)
 
   pub products-stop : {a b : List ℕ} {m h k c f : ℕ} → d ≤ 200 → Reached Products text a b q m h k → next-is plus (drop h text) ≡ true
       → Product-stops n d (h + 1) (drop (h + 1) text) c f → Sum-stops n d q (drop q text) c f

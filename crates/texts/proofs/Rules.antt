@@ -15,7 +15,12 @@ use Rattle.grammar.specs.declared.Bracket.the-variants.{Plain, OfPriority, OfSe
 use Rattle.grammar.specs.Character.{plus, dot, opening, closing, tee, aitch, blank}
 use Rattle.grammar.specs.States.{digit-of, set-of, between-of, Frame, frame, State, unit, digits, done, after-tee, after-aitch, after-set, after-first, after-sign, followed, closed, step, finish, height}
 use Rattle.grammar.specs.Reading.{byte-of, Plan, Fault, above, on-option, limited, read-from, read-text}
-use Rattle.texts.specs.Readers.{Unit-reads, Product-reads, Sum-reads, Digits-read, Unit-stops, Product-stops, Sum-stops, next-is, next-numeral, next-between, plain?, Enters}
+use Rattle.texts.specs.Readers.{Unit-reads, Product-reads, Sum-reads, Unit-stops, Product-stops, Sum-stops, next-is, next-numeral, next-between, plain?, Enters}
+
+-- the digits of an action from place q up to place q′, of value a
+abbrev pub Digits-read : ℕ → ℕ → ℕ → List ℕ → ℕ → List ℕ → ℕ → Type 0
+Digits-read n d q r q′ r′ a = (p e : Bool) (k : List Frame) (v : List ℕ) → length k ≡ d
+    → read-from n q (unit p e k v) r ≡ read-from n q′ (digits a (q′ - q) p e k v) r′
 
 module _ (n : ℕ) where
   -- one character

@@ -1,7 +1,7 @@
 -- Nobody need believe this: contracts of functions cite it. What the three readers, for a sum, a product and a unit, do to the text that is left.
 -- Each reads from place q, where the text r is left and d brackets are open, to place q′, where r′ is left, and gives the words w;
 -- or it stops with a fault. Whatever brackets and signs wait around it, reading goes on as from there.
-use Prim.Native.Nat.{ℕ, _+_, _-_, _≤_, _<_}
+use Prim.Native.Nat.{ℕ, _+_, _≤_, _<_}
 use mathlib.Core.Path.{_≡_}
 use mathlib.Core.Bool.{Bool, true, false, cond}
 use mathlib.Core.List.{List, [], _∷_, _++_}
@@ -14,7 +14,7 @@ use Rattle.grammar.specs.declared.Bracket.{Bracket}
 use Rattle.grammar.specs.declared.Bracket.the-variants.{Plain, OfPriority, OfSet, Second}
 use Rattle.grammar.specs.Character.{plus, dot, opening, closing, blank}
 use Rattle.grammar.specs.Grammar.{deepest}
-use Rattle.grammar.specs.States.{numeral, between-of, Frame, frame, unit, digits, done, followed}
+use Rattle.grammar.specs.States.{numeral, between-of, Frame, frame, unit, done, followed}
 use Rattle.grammar.specs.Reading.{byte-of, Plan, Fault, read-from, read-text}
 use Rattle.texts.specs.declared.characters.Numeral.{Numeral}
 use Rattle.texts.specs.declared.characters.Numeral.the-variants.{Value, NoNumeral}
@@ -38,11 +38,6 @@ Product-reads n d q r q′ r′ w = (p : Bool) (k : List Frame) (v : List ℕ) �
 abbrev pub Sum-reads : ℕ → ℕ → ℕ → List ℕ → ℕ → List ℕ → List ℕ → Type 0
 Sum-reads n d q r q′ r′ w = (k : List Frame) (v : List ℕ) → length k ≡ d
     → read-from n q (unit false false k v) r ≡ read-from n q′ (done false k (v ++ w)) r′
-
--- the digits of an action from place q up to place q′, of value a
-abbrev pub Digits-read : ℕ → ℕ → ℕ → List ℕ → ℕ → List ℕ → ℕ → Type 0
-Digits-read n d q r q′ r′ a = (p e : Bool) (k : List Frame) (v : List ℕ) → length k ≡ d
-    → read-from n q (unit p e k v) r ≡ read-from n q′ (digits a (q′ - q) p e k v) r′
 
 -- a fault of number c at place f
 abbrev pub Unit-stops : ℕ → ℕ → ℕ → List ℕ → ℕ → ℕ → Type 0
