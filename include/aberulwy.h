@@ -3,16 +3,17 @@
  * What is returned: a number of docs/NUMBERS.md, 0 where nothing is refused and nothing stops the call. aberulwy_reached and aberulwy_list_station,
  * which have no number there, return 0, or 1 where the area handed in is too short. All else that a call answers is in its out numbers (size_t *),
  * each of which is set in every case: *place is the printed form of the place (a byte's index, a step's index, or 1024 a + 32 b + c for a triple of
- * actions; 0 where none is named), and the others are 0 where the call is refused. docs/FORMATS.md has the bytes of tables, plans, texts, rewritings
- * and station files.
+ * actions; 0 where none is named), and the others are 0 where the call is refused. One size_t * is no out number: *finished of aberulwy_fresh_walk
+ * and aberulwy_walk is lent, and keeps what it held where the call is refused. docs/FORMATS.md has the bytes of tables, plans, texts, rewritings,
+ * marks and station files.
  *
- * A call takes slices of any length, each a pointer and a length. It reads and writes nothing but these and its out numbers, and it ends. What it
- * may write to must not overlap anything else handed to it, and no pointer may be null, even where its length is 0.
+ * A call takes slices of any length, each a pointer and a length. It reads and writes nothing but these, its out numbers and *finished, and it ends.
+ * What it may write to must not overlap anything else handed to it, and no pointer may be null, even where its length is 0.
  *
  * Stack: allow 640 KiB for aberulwy_list_station, 512 KiB for aberulwy_unfold and aberulwy_unfold_checked, 192 KiB for aberulwy_read_text, 128 KiB
- * for aberulwy_check_rewriting, and 64 KiB for each other call. Measured in threads on x86-64 Linux, aberulwy_list_station needs 486 KiB,
- * aberulwy_unfold and aberulwy_unfold_checked 354, aberulwy_read_text 131 (for a text 200 brackets deep; no text goes deeper),
- * aberulwy_check_rewriting 86, and the others at most 32. Nothing is allocated.
+ * for aberulwy_check_rewriting and aberulwy_walk, and 64 KiB for each other call. Measured in threads on x86-64 Linux, aberulwy_list_station needs
+ * 486 KiB, aberulwy_unfold and aberulwy_unfold_checked 354, aberulwy_read_text 131 (for a text 200 brackets deep; no text goes deeper),
+ * aberulwy_check_rewriting and aberulwy_walk 86, and the others at most 32. Nothing is allocated.
  *
  * The archive is made by `rt staticlib aberulwy_c`: target/staticlib/libaberulwy_c.a.
  */
@@ -22,7 +23,7 @@
 #include <stddef.h>
 #include <stdint.h>
 
-#define ABERULWY_VERSION "0.6.0"
+#define ABERULWY_VERSION "0.7.0"
 
 #ifdef __cplusplus
 extern "C" {
@@ -82,6 +83,23 @@ uint8_t aberulwy_read_station(const uint8_t *file, size_t file_len, uint8_t *tab
  * The text has any length and any bytes, with no zero at its end. docs/FORMATS.md has the grammar. */
 uint8_t aberulwy_read_text(const uint8_t *tables, size_t tables_len, const uint8_t *text, size_t text_len, uint8_t *plan, size_t plan_len,
                            size_t *size, size_t *place);
+
+/* Begins a walk: the hub's progress through a basic plan, which the caller keeps, in marks (one byte for each word of the plan) and in *finished
+ * (which must hold some number before the call; any will do). Returns 0, and then marks is zero but for its last byte, which is 1, and *finished is
+ * 0. Or returns, in this order, 1 to 8, 11 to 14, or 70 for a plan that is not basic or marks of another length than the plan: marks and *finished
+ * then keep what they held. */
+uint8_t aberulwy_fresh_walk(const uint8_t *tables, size_t tables_len, const uint8_t *plan, size_t plan_len, uint8_t *marks, size_t marks_len,
+                            size_t *finished, size_t *place);
+
+/* Brings a message, an action, to a walk. Any byte of marks but zero is a mark, and any marks are a progress: a mark stands for the subplan whose
+ * last word it is at, also at a product's first factor. Returns 0 where the message is taken. A byte of marks is then 1 where the message leads
+ * from a marked subplan to the subplan whose last word that is, and else 0; *finished is 1 where the message finishes from a marked subplan, and
+ * else 0, whatever *finished held. Or returns, in this order, 1 to 8, 11 to 14, 70 as aberulwy_fresh_walk does, 71 for an action outside 1 to n, or
+ * 72 where no path goes on with it: marks and *finished then keep what they held. From a fresh walk a message is taken exactly when some path of
+ * the plan's tree begins with the messages taken so far and this one, and *finished is 1 exactly when exactly those messages can end in a finish:
+ * that is proved. */
+uint8_t aberulwy_walk(const uint8_t *tables, size_t tables_len, const uint8_t *plan, size_t plan_len, uint8_t *marks, size_t marks_len,
+                      uint8_t message, size_t *finished, size_t *place);
 
 /* Lists a station file: everything that the program prints for it, refusals too. Returns 0, and then *size is the text's length, and zeros stand
  * behind it; or returns 1 where the area is too short for it: it then keeps its bytes, and *size is 0. No listing is longer than 93,000 bytes. */

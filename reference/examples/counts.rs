@@ -4,7 +4,9 @@
 
 use reference::random::cases::{check_case, own_rewriting_case, station_case, unfold_case};
 use reference::random::texts::text_case;
+use reference::random::walks::{fresh_walk_case, walk_case};
 use reference::random::Random;
+use reference::Refusal;
 use std::collections::BTreeMap;
 use std::time::{Duration, Instant};
 
@@ -18,11 +20,13 @@ fn main() {
     let mut number = |default| given.next().map_or(default, |text| text.parse().unwrap());
     let (cases, seed) = (number(20_000), number(1));
     let mut random = Random::new(seed);
-    let kinds: [(&str, Kind); 4] = [
+    let kinds: [(&str, Kind); 6] = [
         ("unfolding, then its own rewriting checked", unfolding),
         ("checking", checking),
         ("station files", stations),
         ("texts", texts),
+        ("fresh walks", fresh_walks),
+        ("messages", messages),
     ];
     for (name, kind) in kinds {
         let (counts, slowest, time) = count(cases, &mut random, kind);
@@ -63,15 +67,22 @@ fn checking(random: &mut Random) -> u8 {
 }
 
 fn stations(random: &mut Random) -> u8 {
-    station_case(random)
-        .run()
-        .answer
-        .map_or_else(|refusal| refusal.number, |_| 0)
+    number(station_case(random).run().answer)
 }
 
 fn texts(random: &mut Random) -> u8 {
-    text_case(random)
-        .run()
-        .answer
-        .map_or_else(|refusal| refusal.number, |_| 0)
+    number(text_case(random).run().answer)
+}
+
+fn fresh_walks(random: &mut Random) -> u8 {
+    number(fresh_walk_case(random).run().answer)
+}
+
+fn messages(random: &mut Random) -> u8 {
+    number(walk_case(random).run().answer)
+}
+
+/// The number of a refusal, 0 where there is none.
+fn number<T>(answer: Result<T, Refusal>) -> u8 {
+    answer.map_or_else(|refusal| refusal.number, |_| 0)
 }

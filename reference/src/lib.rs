@@ -6,8 +6,8 @@
 //! implementation can be compared with it byte for byte. Each item quotes the
 //! sentence that it renders. `docs/FORMATS.md` and `docs/NUMBERS.md` tell the
 //! bytes and the numbers. [`texts`] was written from request 101 of the customer's
-//! change requests; [`descriptions`], [`reading`] and [`random`] are this folder's
-//! own.
+//! change requests, and [`walks`] from request 102; [`descriptions`], [`reading`] and
+//! [`random`] are this folder's own.
 
 #![forbid(unsafe_code)]
 #![warn(missing_docs)]
@@ -27,5 +27,6 @@ pub mod tables;
 pub mod texts;
 pub mod trees;
 pub mod unfolding;
+pub mod walks;
 
 pub use refusals::{Place, Refusal};

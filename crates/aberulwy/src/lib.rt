@@ -3,10 +3,10 @@
 // clauses say what is claimed of it.
 //
 // How a contract reads: `ensures NAME { λ r. ⌜ … ⌝ }` is proved of whatever `r` the call returns. `now (x .entry)` is what a lent slice `x` holds,
-// as a list of numbers, when the call begins, and `now (x .exit)` when it ends; a number's name is its value. `≡` is equality, `×` is "and", and
-// `↔` is "exactly when". `ghost use` brings in the definitions that contracts cite: those of `Rattle.NAME.specs` stand in crates/NAME/specs,
-// and those of this crate are `Rattle.aberulwy.specs`; `declared` holds the enums and structs of the code. `_≡_ {A = R} x y` is `x ≡ y`
-// between records of type R.
+// as a list of numbers, when the call begins (of a lent `bool`, true or false), and `now (x .exit)` when it ends; a number's name is its value. `≡`
+// is equality, `×` is "and", and `↔` is "exactly when". `ghost use` brings in the definitions that contracts cite: those of `Rattle.NAME.specs`
+// stand in crates/NAME/specs, and those of this crate are `Rattle.aberulwy.specs`; `declared` holds the enums and structs of the code.
+// `_≡_ {A = R} x y` is `x ≡ y` between records of type R.
 use checking::Checked;
 use refusals::Judgement;
 use refusals::Refusal;
@@ -26,6 +26,8 @@ ghost use Rattle.plans.specs.Accepted.{AcceptedPlan, BasicPlan};
 ghost use Rattle.stations.specs.File.{station-outcome, station-report, station-reported, StationOutcome};
 ghost use Rattle.texts.specs.Text.{text-outcome, text-report, text-reported, TextOutcome};
 ghost use Rattle.texts.specs.Claims.{TextClaims};
+ghost use Rattle.walks.specs.Outcome.{WalkOutcome, not-walkable-refusal, fresh-outcome, walk-refusal, walk-outcome};
+ghost use Rattle.walks.specs.Claims.{FreshClaims, WalkClaims};
 ghost use Rattle.areas.specs.Reached.{even?, reached-part};
 ghost use Rattle.unfolding.specs.Unfolding.{unfold-outcome, UnfoldOutcome};
 ghost use Rattle.checking.specs.Checking.{check-outcome, CheckOutcome};
@@ -191,6 +193,45 @@ pub fn read_text(tables: &[u8], text: &[u8], plan: &mut [u8]) -> TextRead
         (record { answer = r; plan = now (plan .exit) }) ⌝ }
 {
     texts::read_text(tables, text, plan)
+}
+
+// Begins a walk through a basic plan: the marks, one byte for each word, are all zero but the last, which is 1, and no finish is reached. Refusals 1
+// to 8, 11 to 14, then 70 for a plan that is not basic or marks of another length, leave marks and finish as they are. What is claimed of every list
+// of messages that follows is claimed here.
+pub fn fresh_walk(tables: &[u8], plan: &[u8], marks: &mut [u8], finished: &mut bool) -> Judgement
+    ensures whole { λ r. ⌜ _≡_ {A = WalkOutcome}
+        (record { answer = r; progress = record { marks = now (marks .exit); finish = now (finished .exit) } })
+        (fresh-outcome (now (tables .entry)) (now (plan .entry))
+        (record { marks = now (marks .entry); finish = now (finished .entry) })) ⌝ }
+    ensures numbers { λ r. ⌜ report r ≡ reported (not-walkable-refusal (now (tables .entry)) (now (plan .entry)) (now (marks .entry))) [] ⌝ }
+    ensures claims { λ r. ⌜ FreshClaims (now (tables .entry)) (now (plan .entry))
+        (record { marks = now (marks .entry); finish = now (finished .entry) })
+        (record { answer = r; progress = record { marks = now (marks .exit); finish = now (finished .exit) } }) ⌝ }
+{
+    walks::fresh_walk(tables, plan, marks, finished)
+}
+
+// Brings a message to a walk, where any marks and any finish are a progress: it is taken, and what stands afterwards is what it leads to from the
+// marked subplans; or it is refused, as `fresh_walk` is, or with 71 for an action outside 1 to n, or 72 where no path goes on with it, and changes
+// nothing.
+pub fn walk(
+    tables: &[u8],
+    plan: &[u8],
+    marks: &mut [u8],
+    message: u8,
+    finished: &mut bool,
+) -> Judgement
+    ensures whole { λ r. ⌜ _≡_ {A = WalkOutcome}
+        (record { answer = r; progress = record { marks = now (marks .exit); finish = now (finished .exit) } })
+        (walk-outcome (now (tables .entry)) (now (plan .entry)) message
+        (record { marks = now (marks .entry); finish = now (finished .entry) })) ⌝ }
+    ensures numbers { λ r. ⌜ report r ≡ reported (walk-refusal (now (tables .entry)) (now (plan .entry)) message
+        (record { marks = now (marks .entry); finish = now (finished .entry) })) [] ⌝ }
+    ensures claims { λ r. ⌜ WalkClaims (now (tables .entry)) (now (plan .entry)) message
+        (record { marks = now (marks .entry); finish = now (finished .entry) })
+        (record { answer = r; progress = record { marks = now (marks .exit); finish = now (finished .exit) } }) ⌝ }
+{
+    walks::walk(tables, plan, marks, message, finished)
 }
 
 // The check of an unfolding's own rewriting; nothing is checked where the unfolding was refused.

@@ -2,3 +2,4 @@ mod Answers
 mod Numbers
 mod Seen
 mod Texts
+mod Walks

@@ -1,17 +1,22 @@
 -- What the calls for C and Rust answer and leave: a number, out numbers, and lent areas. (01, "Turned back by what was handed in".)
 use Prim.Native.Nat.{ℕ, zero, suc}
-use mathlib.Core.Bool.{Bool, true, false}
+use mathlib.Core.Bool.{Bool, true, false, not}
 use mathlib.Core.List.{List, [], _∷_, _++_}
 use mathlib.Core.Option.{Option, none, some}
 use lib.ListN.{length}
-use lib.Dec.{leb}
+use lib.Dec.{eqb, leb}
 use Rattle.areas.specs.Area.{padded}
-use Rattle.refusals.specs.Refusal.{Report}
+use Rattle.refusals.specs.declared.Judgement.{Judgement}
+use Rattle.refusals.specs.declared.Judgement.the-variants.{Accepted, Refused}
+use Rattle.refusals.specs.Refusal.{Report, report}
 use Rattle.tables.specs.Tables.{Tables}
 use Rattle.unfolding.specs.Unfolding.{unfold-outcome, UnfoldOutcome}
 use Rattle.checking.specs.Checking.{check-outcome, CheckOutcome}
 use Rattle.stations.specs.File.{station-outcome, station-report, StationOutcome}
 use Rattle.texts.specs.Text.{text-outcome, text-report, TextOutcome}
+use Rattle.walks.specs.Progress.{Progress}
+use Rattle.walks.specs.Outcome.{WalkOutcome, fresh-outcome, walk-outcome}
+use Rattle.aberulwy.specs.Judging.{bit}
 use Rattle.aberulwy.specs.Rewriting.{unfold-report, check-report, own-report, both-outcome, BothOutcome}
 
 -- everything that a call answers and leaves
@@ -20,7 +25,7 @@ pub record Returned : Type 0 where
   pub number : ℕ
   -- what is set as the place
   pub place : ℕ
-  -- the other out numbers, in the order of the parameters
+  -- the other out numbers, in the order of the parameters; of a walk, the number of the finish, which is lent
   pub values : List ℕ
   -- the lent areas, in the order of the parameters
   pub areas : List (List ℕ)
@@ -62,6 +67,31 @@ of-text o = returned 1 (text-report (o .answer)) (o .plan ∷ [])
 
 abbrev pub text-returned : Tables → List ℕ → List ℕ → Returned
 text-returned tables text plan = of-text (text-outcome tables text plan)
+
+-- 1 or 0 for whether a finish is reached, and under a refusal the number that was held
+abbrev pub finish-left : Judgement → ℕ → Bool → ℕ
+finish-left Accepted held finish = bit finish
+finish-left (Refused r) held finish = held
+
+-- a walk: the number of the finish; the marks
+abbrev pub of-walk : ℕ → WalkOutcome → Returned
+of-walk held o =
+    record {
+      number = report (o .answer) .number;
+      place = report (o .answer) .place;
+      values = finish-left (o .answer) held (o .progress .finish) ∷ [];
+      areas = o .progress .marks ∷ [];
+    }
+
+-- the progress lent: any number but 0 reads as a finish (no number returned and no byte left depends on this reading)
+abbrev pub lent : List ℕ → ℕ → Progress
+lent marks held = record { marks = marks; finish = not (eqb held 0) }
+
+abbrev pub fresh-returned : Tables → List ℕ → List ℕ → ℕ → Returned
+fresh-returned t plan marks held = of-walk held (fresh-outcome t plan (lent marks held))
+
+abbrev pub walk-returned : Tables → List ℕ → List ℕ → ℕ → ℕ → Returned
+walk-returned t plan marks m held = of-walk held (walk-outcome t plan m (lent marks held))
 
 -- the check of an unfolding's own rewriting: whether it was made, its number, steps, size and place; zeros where none was made
 abbrev pub own-numbers : Option Report → List ℕ

@@ -1,10 +1,13 @@
 -- Nobody need believe this: contracts of functions below the calls cite it. How a report is handed over, number by number.
 use Prim.Native.Nat.{ℕ}
 use mathlib.Core.Path.{_≡_}
+use mathlib.Core.Bool.{Bool}
 use mathlib.Core.List.{[]}
 use mathlib.Core.Option.{Option, none, some}
 use lib.ListN.{getD}
-use Rattle.refusals.specs.Refusal.{Report}
+use Rattle.refusals.specs.declared.Judgement.{Judgement}
+use Rattle.refusals.specs.Refusal.{Report, report}
+use Rattle.aberulwy_c.specs.Answers.{finish-left}
 
 -- the number n answered and the out numbers p, v and w are those of a report
 pub record Answered (R : Report) (n p v w : ℕ) : Type 0 where
@@ -31,3 +34,9 @@ or-zeros (some R) = R
 pub record MaybeAnswered (R : Option Report) (m n p v w : ℕ) : Type 0 where
   pub made : m ≡ there R
   pub answered : Answered (or-zeros R) n p v w
+
+-- the answer of a call of a walk handed over: its number n and place p, and the number f of the finish b, which a refusal leaves as it was, h
+pub record WalkAnswered (answer : Judgement) (b : Bool) (h n p f : ℕ) : Type 0 where
+  pub number : n ≡ report answer .number
+  pub place : p ≡ report answer .place
+  pub finish : f ≡ finish-left answer h b

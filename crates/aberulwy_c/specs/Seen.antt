@@ -1,7 +1,11 @@
--- What is claimed of the calls for C and Rust: the claims of the calls below, of the answer that the numbers seen tell. (Demands 2 and 3.)
+-- What is claimed of the calls for C and Rust: the claims of the calls below, of the answer that the numbers seen tell. (Demands 2, 3; requests 101, 102.)
 use Prim.Native.Nat.{ℕ, _≤_}
+use mathlib.Core.Path.{_≡_}
+use mathlib.Core.Bool.{Bool}
 use mathlib.Core.List.{List}
 use Rattle.refusals.specs.declared.Refusal.{Refusal}
+use Rattle.refusals.specs.declared.Judgement.{Judgement}
+use Rattle.refusals.specs.declared.Judgement.the-variants.{Accepted as Walk-accepted, Refused as Walk-refused}
 use Rattle.refusals.specs.Refusal.{printed}
 use Rattle.unfolding.specs.declared.Unfolded.{Unfolded}
 use Rattle.unfolding.specs.declared.Unfolded.the-variants.{Finished, Stopped, Refused as Not-unfolded}
@@ -10,11 +14,13 @@ use Rattle.checking.specs.declared.Checked.the-variants.{Accepted, TurnedBack, 
 use Rattle.texts.specs.declared.TextRead.{TextRead}
 use Rattle.texts.specs.declared.TextRead.the-variants.{Read, Refused as Not-read}
 use Rattle.texts.specs.Claims.{TextClaims}
+use Rattle.walks.specs.Claims.{FreshClaims, WalkClaims}
 use Rattle.tables.specs.Tables.{Tables}
 use Rattle.demands.specs.Claims.{UnfoldGiven, CheckGiven, UnfoldClaims, CheckClaims, StepClaims}
 use Rattle.aberulwy.specs.declared.OwnCheck.{OwnCheck}
 use Rattle.aberulwy.specs.declared.OwnCheck.the-variants.{Checked as Checked-as, NotChecked}
 use Rattle.aberulwy.specs.Rewriting.{OwnAccepted}
+use Rattle.aberulwy_c.specs.Answers.{finish-left, lent}
 
 -- An unfolding's answer by the number answered and the place, steps and size set: 0 is finished, 34 to 36 are the endings, 1 to 18 are refusals.
 pub data UnfoldedAs : Unfolded → ℕ → ℕ → ℕ → ℕ → Type 0 where
@@ -37,6 +43,11 @@ pub data OwnAs : OwnCheck → ℕ → ℕ → ℕ → ℕ → ℕ → Type 0 whe
 pub data TextReadAs : TextRead → ℕ → ℕ → ℕ → Type 0 where
   read : (size : ℕ) → TextReadAs (Read size) 0 0 size
   refused : (f : Refusal) → 1 ≤ f .number → f .number ≤ 63 → TextReadAs (Not-read f) (f .number) (printed (f .place)) 0
+
+-- The answer of a call of a walk by the number answered and the place set: 0 is begun or taken, 1 to 72 are refusals.
+pub data WalkedAs : Judgement → ℕ → ℕ → Type 0 where
+  accepted : WalkedAs Walk-accepted 0 0
+  refused : (f : Refusal) → 1 ≤ f .number → f .number ≤ 72 → WalkedAs (Walk-refused f) (f .number) (printed (f .place))
 
 -- Of an unfolding that left these bytes: what is claimed of it holds of the answer seen.
 pub record UnfoldSeen (given : UnfoldGiven) (list a b : List ℕ) (number place steps size : ℕ) : Type 0 where
@@ -81,3 +92,18 @@ pub record TextSeen (tables : Tables) (text area left : List ℕ) (number place 
   pub answer : TextRead
   pub seen : TextReadAs answer number place size
   pub claims : TextClaims tables text area (record { answer = answer; plan = left })
+
+-- Of a fresh walk, and of a message brought, that left these marks and this number of the finish.
+pub record FreshSeen (tables : Tables) (plan marks left : List ℕ) (held number place finished : ℕ) : Type 0 where
+  pub answer : Judgement
+  pub finish : Bool
+  pub seen : WalkedAs answer number place
+  pub finish-seen : finished ≡ finish-left answer held finish
+  pub claims : FreshClaims tables plan (lent marks held) (record { answer = answer; progress = record { marks = left; finish = finish } })
+
+pub record WalkSeen (tables : Tables) (plan marks left : List ℕ) (message held number place finished : ℕ) : Type 0 where
+  pub answer : Judgement
+  pub finish : Bool
+  pub seen : WalkedAs answer number place
+  pub finish-seen : finished ≡ finish-left answer held finish
+  pub claims : WalkClaims tables plan message (lent marks held) (record { answer = answer; progress = record { marks = left; finish = finish } })

@@ -1,6 +1,6 @@
-// The public calls for C and Rust: numbers and byte slices only. Each answers a number of docs/NUMBERS.md and sets every out number; the two that
-// only hand bytes over, `aberulwy_reached` and `aberulwy_list_station`, answer 0, or 1 where the area is too short. `whole` says everything that a
-// call answers, sets and leaves; further clauses say what is claimed of it.
+// The public calls for C and Rust: numbers and byte slices only. Each answers a number of docs/NUMBERS.md and sets every out number (`finished` of a
+// walk is not one: it is lent, and a refusal leaves it); the two that only hand bytes over, `aberulwy_reached` and `aberulwy_list_station`, answer 0, or 1
+// where the area is too short. `whole` says everything that a call answers, sets and leaves; further clauses say what is claimed of it.
 use aberulwy::BasicAnswer;
 use aberulwy::OrdersAnswer;
 use aberulwy::OwnCheck;
@@ -30,8 +30,9 @@ ghost use Rattle.listing.specs.Writing.{most};
 ghost use Rattle.listing.specs.Endings.{Endings};
 ghost use Rattle.aberulwy_c.specs.Answers.{Returned, returned, HandedOver, handed-over};
 ghost use Rattle.aberulwy_c.specs.Answers.{unfold-returned, check-returned, both-returned, station-returned, text-returned};
-ghost use Rattle.aberulwy_c.specs.Handing.{Answered, MaybeAnswered};
-ghost use Rattle.aberulwy_c.specs.Seen.{UnfoldSeen, CheckSeen, StepSeen, OwnSeen, TextSeen};
+ghost use Rattle.aberulwy_c.specs.Answers.{fresh-returned, walk-returned};
+ghost use Rattle.aberulwy_c.specs.Handing.{Answered, MaybeAnswered, WalkAnswered};
+ghost use Rattle.aberulwy_c.specs.Seen.{UnfoldSeen, CheckSeen, StepSeen, OwnSeen, TextSeen, FreshSeen, WalkSeen};
 
 // Answers a refusal's number and sets its place.
 fn refuse(refusal: Refusal, place: &mut usize) -> u8
@@ -126,6 +127,22 @@ fn hand_own(
             *place = 0;
         }
     }
+}
+
+// Answers the number of a walk's answer and sets its place; the finish is set, 1 or 0, where nothing is refused.
+fn hand_walked(answer: Judgement, finish: bool, finished: &mut usize, place: &mut usize) -> u8
+    ensures { λ r. ⌜ WalkAnswered answer finish (now (finished .entry)) r (now (place .exit)) (now (finished .exit)) ⌝ }
+{
+    *place = 0;
+    if let Judgement::Refused(refusal) = answer {
+        return refuse(refusal, place);
+    }
+    if finish {
+        *finished = 1;
+        return 0;
+    }
+    *finished = 0;
+    0
 }
 
 // Hands bytes over in an area, with zeros behind, and sets their length; or answers 1 where the area is too short, which then keeps its bytes.
@@ -414,6 +431,59 @@ pub extern "C" fn aberulwy_read_text(
         }
         TextRead::Refused(refusal) => refuse(refusal, place),
     }
+}
+
+// Begins a walk through a basic plan: 0, with one mark, at the last word, and `finished` 0; or the number of the refusal and its place, and then the
+// marks and `finished` keep what they held.
+#[no_mangle]
+pub extern "C" fn aberulwy_fresh_walk(
+    tables: &[u8],
+    plan: &[u8],
+    marks: &mut [u8],
+    finished: &mut usize,
+    place: &mut usize,
+) -> u8
+    ensures whole { λ r. ⌜ _≡_ {A = Returned}
+        (record {
+          number = r;
+          place = now (place .exit);
+          values = now (finished .exit) ∷ [];
+          areas = now (marks .exit) ∷ [];
+        })
+        (fresh-returned (now (tables .entry)) (now (plan .entry)) (now (marks .entry)) (now (finished .entry))) ⌝ }
+    ensures claims { λ r. ⌜ FreshSeen (now (tables .entry)) (now (plan .entry)) (now (marks .entry)) (now (marks .exit))
+        (now (finished .entry)) r (now (place .exit)) (now (finished .exit)) ⌝ }
+{
+    let mut finish = *finished != 0;
+    let answer = aberulwy::fresh_walk(tables, plan, marks, &mut finish);
+    hand_walked(answer, finish, finished, place)
+}
+
+// Brings a message to a walk: 0 where it is taken, with the marks of what it leads to and `finished` 1 where it finishes from a marked subplan, and
+// else 0; or the number of the refusal and its place, and then the marks and `finished` keep what they held.
+#[no_mangle]
+pub extern "C" fn aberulwy_walk(
+    tables: &[u8],
+    plan: &[u8],
+    marks: &mut [u8],
+    message: u8,
+    finished: &mut usize,
+    place: &mut usize,
+) -> u8
+    ensures whole { λ r. ⌜ _≡_ {A = Returned}
+        (record {
+          number = r;
+          place = now (place .exit);
+          values = now (finished .exit) ∷ [];
+          areas = now (marks .exit) ∷ [];
+        })
+        (walk-returned (now (tables .entry)) (now (plan .entry)) (now (marks .entry)) message (now (finished .entry))) ⌝ }
+    ensures claims { λ r. ⌜ WalkSeen (now (tables .entry)) (now (plan .entry)) (now (marks .entry)) (now (marks .exit))
+        message (now (finished .entry)) r (now (place .exit)) (now (finished .exit)) ⌝ }
+{
+    let mut finish = *finished != 0;
+    let answer = aberulwy::walk(tables, plan, marks, message, &mut finish);
+    hand_walked(answer, finish, finished, place)
 }
 
 // Lists a station file, everything that the program prints for it, with zeros behind it: 0 and its length; or 1 and 0 where the area is too

@@ -1,4 +1,4 @@
-//! Seeded random tables, plans, rewritings, files, texts and whole cases, for comparing
+//! Seeded random tables, plans, rewritings, files, texts, walks and whole cases, for comparing
 //! implementations. They stay close to the edges of what is accepted.
 
 pub mod cases;
@@ -6,6 +6,7 @@ pub mod plans;
 pub mod rewritings;
 pub mod tables;
 pub mod texts;
+pub mod walks;
 
 /// A seeded source of numbers (splitmix64): the same seed gives the same cases.
 #[derive(Clone, Debug)]

@@ -101,7 +101,7 @@ fn sign(random: &mut Random, taste: &[u8], size: usize) -> Option<u8> {
     }
 }
 
-/// How many of the words go to the left operand.
+/// How many of the words, or of the actions, go to the left operand.
 fn share(random: &mut Random, shape: Shape, words: usize) -> usize {
     match shape {
         Shape::Any => random.between(1, words - 1),
@@ -148,6 +148,37 @@ fn basic_sum(random: &mut Random, n: u8, leaves: usize) -> Vec<u8> {
         return product;
     }
     vec![first]
+}
+
+/// A basic plan with exactly so many words that are actions, dead stop counted. Beside dead stop it
+/// has at most three different actions, so that many of its summands begin with the same one.
+pub fn repeating_basic_plan(random: &mut Random, n: u8, actions: usize) -> Vec<u8> {
+    let any = |random: &mut Random| random.between(1, n as usize) as u8;
+    let few = [any(random), any(random), any(random)];
+    let few = &few[..random.between(1, 3)];
+    let sums_in_four = random.pick(&[0, 1, 2, 2, 3, 4]);
+    // The fewest actions of a sum; from 4 on, none of its summands is an action alone.
+    let least_sum = random.pick(&[2, 4, 7]);
+    let shape = random.pick(&[Shape::Any, Shape::Left, Shape::Right, Shape::Even]);
+    let mut backwards = Vec::with_capacity(2 * actions);
+    // How many actions a part has, and whether it may be dead stop.
+    let mut waiting = vec![(actions, true)];
+    while let Some((actions, may_stop)) = waiting.pop() {
+        if actions == 1 {
+            let stops = may_stop && random.once_in(6);
+            backwards.push(if stops { 0 } else { random.pick(few) });
+        } else if actions >= least_sum && random.below(4) < sums_in_four {
+            backwards.push(CHOICE);
+            let least = least_sum / 2;
+            let left = share(random, shape, actions).clamp(least, actions - least);
+            waiting.extend([(left, false), (actions - left, false)]);
+        } else {
+            backwards.push(PRODUCT);
+            waiting.extend([(1, false), (actions - 1, true)]);
+        }
+    }
+    backwards.reverse();
+    backwards
 }
 
 /// A plan somewhere in which the left side of one of the laws stands.

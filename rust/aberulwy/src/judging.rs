@@ -82,7 +82,8 @@ pub fn count_orders(tables: &[u8], plan: &[u8]) -> Result<usize, Refusal> {
     counted(raw::count_orders(tables, plan))
 }
 
-fn judged(answer: raw::Judged) -> Result<(), Refusal> {
+/// Nothing more than that it was done, or the refusal.
+pub(crate) fn judged(answer: raw::Judged) -> Result<(), Refusal> {
     match answer.number {
         0 => Ok(()),
         number => Err(Refusal::new(number, answer.place)),

@@ -3,8 +3,9 @@
 //! The library judges *tables* (2,305 bytes: communication, priority, blocked sets) and
 //! *plans* (postfix words, one byte each), unfolds a plan to a basic one by laws 5 to 32,
 //! records the steps, checks anybody's rewriting by all thirty-two laws, reads and lists station
-//! files, and reads plans typed in signs. Every call takes slices of any length; what is malformed
-//! is refused with a number and a place, and then no lent byte is changed. Nothing is allocated.
+//! files, reads plans typed in signs, and walks through a basic plan message by message. Every call
+//! takes slices of any length; what is malformed is refused with a number and a place, and then
+//! nothing lent is changed. Nothing is allocated.
 //!
 //! ```
 //! use aberulwy::{unfold, Ending};
@@ -36,15 +37,18 @@
 //! A plan may be typed in signs too, as `H0((1 # 2).3)`: [`read_text`] tells the signs, and turns
 //! such a text into words.
 //!
-//! The repository's `docs/FORMATS.md` draws tables, plans, texts, rewritings, areas and station
-//! files, and `docs/NUMBERS.md` lists the words, the laws, the endings and the refusals.
+//! A hub that follows a basic plan keeps its progress as a mark byte for each word, and whether a
+//! finish is reached: [`fresh_walk`] begins it, and [`walk`] takes one message after the other.
+//!
+//! The repository's `docs/FORMATS.md` draws tables, plans, texts, rewritings, areas, marks and
+//! station files, and `docs/NUMBERS.md` lists the words, the laws, the endings and the refusals.
 //!
 //! # Stack
 //!
 //! Allow 640 KiB for [`list_station`], 512 KiB for [`unfold`] and [`unfold_checked`], 192 KiB
-//! for [`read_text`], 128 KiB for [`check_rewriting`], and 64 KiB for each other call;
-//! `include/aberulwy.h` has what was measured. The default of a Rust thread (2 MiB) is enough for
-//! all of them.
+//! for [`read_text`], 128 KiB for [`check_rewriting`] and [`walk`], and 64 KiB for each other
+//! call; `include/aberulwy.h` has what was measured. The default of a Rust thread (2 MiB) is
+//! enough for all of them.
 //!
 //! # Linking
 //!
@@ -64,6 +68,7 @@ mod refusals;
 mod stations;
 mod texts;
 mod unfolding;
+mod walks;
 
 pub use checking::{check_rewriting, Checked, Verdict};
 pub use judging::{count_orders, is_basic, judge_plan, judge_tables};
@@ -71,6 +76,7 @@ pub use refusals::{Place, Refusal};
 pub use stations::{list_station, read_station};
 pub use texts::read_text;
 pub use unfolding::{copy_reached, unfold, unfold_checked, Ending, Unfolded, UnfoldedChecked};
+pub use walks::{fresh_walk, walk};
 
 /// The bytes of tables.
 pub const TABLES_LENGTH: usize = 2305;

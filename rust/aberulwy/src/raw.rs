@@ -3,9 +3,10 @@
 //! answers.
 //!
 //! All of the crate's unsafe code is here. Each call hands over slices that Rust has
-//! borrowed, a slice as a pointer and a length. The archive's functions are proved for
-//! slices of every length, write to the mutable ones alone, and keep no pointer; the
-//! mutable slices of one call never overlap, since Rust lends them apart.
+//! borrowed, a slice as a pointer and a length, and numbers that Rust has borrowed or that
+//! are the call's own. The archive's functions are proved for slices of every length, write
+//! to the mutable ones and to these numbers alone, and keep no pointer; what one call may
+//! write to never overlaps, since Rust lends it apart.
 
 #![allow(unsafe_code)]
 
@@ -203,6 +204,29 @@ mod archive {
             plan: *mut u8,
             plan_len: usize,
             size: *mut usize,
+            place: *mut usize,
+        ) -> u8;
+
+        pub fn aberulwy_fresh_walk(
+            tables: *const u8,
+            tables_len: usize,
+            plan: *const u8,
+            plan_len: usize,
+            marks: *mut u8,
+            marks_len: usize,
+            finished: *mut usize,
+            place: *mut usize,
+        ) -> u8;
+
+        pub fn aberulwy_walk(
+            tables: *const u8,
+            tables_len: usize,
+            plan: *const u8,
+            plan_len: usize,
+            marks: *mut u8,
+            marks_len: usize,
+            message: u8,
+            finished: *mut usize,
             place: *mut usize,
         ) -> u8;
     }
@@ -583,6 +607,84 @@ pub fn read_text(tables: &[u8], text: &[u8], plan_area: &mut [u8]) -> Counted {
         value,
         place,
     }
+}
+
+/// Begins a walk, with one mark, at the plan's last word, and `finished` 0: 0; or 1 to 8, 11 to
+/// 14, 70 with every mark and `finished` kept.
+///
+/// `finished` is lent as the marks are; no call sets it under a refusal.
+///
+/// ```
+/// use aberulwy::raw::{fresh_walk, Judged};
+///
+/// let (tables, plan) = (aberulwy::examples::trial_tables(), [1, 2, 65]);
+/// let (mut marks, mut finished) = ([7; 3], 9);
+/// let begun = fresh_walk(&tables, &plan, &mut marks, &mut finished);
+/// assert_eq!(begun, Judged { number: 0, place: 0 });
+/// assert_eq!((marks, finished), ([0, 0, 1], 0));
+/// // One byte too few for the plan's words.
+/// finished = 9;
+/// let refused = fresh_walk(&tables, &plan, &mut marks[..2], &mut finished);
+/// assert_eq!(refused, Judged { number: 70, place: 0 });
+/// assert_eq!((marks, finished), ([0, 0, 1], 9));
+/// ```
+pub fn fresh_walk(tables: &[u8], plan: &[u8], marks: &mut [u8], finished: &mut usize) -> Judged {
+    let mut place = NOT_SET;
+    // SAFETY: see the head of this file.
+    let number = unsafe {
+        archive::aberulwy_fresh_walk(
+            tables.as_ptr(),
+            tables.len(),
+            plan.as_ptr(),
+            plan.len(),
+            marks.as_mut_ptr(),
+            marks.len(),
+            finished,
+            &mut place,
+        )
+    };
+    Judged { number, place }
+}
+
+/// Brings a message to a walk, which then has the marks that the message leads to, and
+/// `finished` 1 or 0: 0; or 1 to 8, 11 to 14, 70 to 72 with every mark and `finished` kept.
+///
+/// ```
+/// use aberulwy::raw::{walk, Judged};
+///
+/// let (tables, plan) = (aberulwy::examples::trial_tables(), [1, 2, 65]);
+/// let (mut marks, mut finished) = ([0, 0, 1], 0);
+/// let mut bring = |message| walk(&tables, &plan, &mut marks, message, &mut finished);
+/// assert_eq!(bring(1), Judged { number: 0, place: 0 });
+/// assert_eq!(bring(1), Judged { number: 72, place: 0 });
+/// assert_eq!(bring(0), Judged { number: 71, place: 0 });
+/// assert_eq!((marks, finished), ([0, 1, 0], 0));
+/// walk(&tables, &plan, &mut marks, 2, &mut finished);
+/// assert_eq!((marks, finished), ([0, 0, 0], 1));
+/// ```
+pub fn walk(
+    tables: &[u8],
+    plan: &[u8],
+    marks: &mut [u8],
+    message: u8,
+    finished: &mut usize,
+) -> Judged {
+    let mut place = NOT_SET;
+    // SAFETY: see the head of this file.
+    let number = unsafe {
+        archive::aberulwy_walk(
+            tables.as_ptr(),
+            tables.len(),
+            plan.as_ptr(),
+            plan.len(),
+            marks.as_mut_ptr(),
+            marks.len(),
+            message,
+            finished,
+            &mut place,
+        )
+    };
+    Judged { number, place }
 }
 
 /// Lists a station file, zeros behind: 0; or 1 with every lent byte kept, where the area is

@@ -134,6 +134,9 @@ impl Refusal {
             61 => "the text is no plan: it goes wrong at this place",
             62 => "a bracket of the text goes deeper than 200",
             63 => "the text's plan is longer than its area or than 16,384 words",
+            70 => "the plan is not basic, or the marks are of another length",
+            71 => "the message is an action outside 1 to n",
+            72 => "no path goes on with the message",
             _ => "an unlisted reason",
         }
     }
@@ -168,6 +171,8 @@ mod tests {
         assert_eq!(Refusal::new(55, 0).place(), Place::Nowhere);
         assert_eq!(Refusal::new(61, 7).place(), Place::Byte(7));
         assert_eq!(Refusal::new(62, 201).place(), Place::Byte(201));
-        assert_eq!(Refusal::new(63, 0).place(), Place::Nowhere);
+        for number in [63, 70, 71, 72] {
+            assert_eq!(Refusal::new(number, 0).place(), Place::Nowhere);
+        }
     }
 }

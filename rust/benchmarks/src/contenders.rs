@@ -1,10 +1,11 @@
 //! What is measured: the proved library, where it is linked, and the plain version; beside them
-//! the reference, which is compared but too slow to measure.
+//! the reference, which is compared, and measured where it is not too slow.
 
 use crate::plain;
-use reference::{checking, texts, unfolding, Refusal};
+use reference::{checking, texts, unfolding, walks, Refusal};
 
-/// How a call ended: number, steps, words of the plan reached or read.
+/// How a call ended: number, steps, words of the plan reached or read. Of a walk, the last is 1
+/// where a finish is reached, and else 0.
 pub type Ended = (u8, usize, usize);
 /// Unfolds: tables, plan, allowance, list, areas A and B.
 pub type Unfold = fn(&[u8], &[u8], u32, &mut [u8], &mut [u8], &mut [u8]) -> Ended;
@@ -12,6 +13,10 @@ pub type Unfold = fn(&[u8], &[u8], u32, &mut [u8], &mut [u8], &mut [u8]) -> Ende
 pub type Check = fn(&[u8], &[u8], &[u8], &[u8], &mut [u8], &mut [u8]) -> Ended;
 /// Reads a text: tables, text, plan area. It makes no steps.
 pub type Read = fn(&[u8], &[u8], &mut [u8]) -> Ended;
+/// Begins a walk: tables, plan, marks. It makes no steps.
+pub type Begin = fn(&[u8], &[u8], &mut [u8]) -> Ended;
+/// Brings a message to a walk without a finish: tables, plan, marks, message. It makes no steps.
+pub type Bring = fn(&[u8], &[u8], &mut [u8], u8) -> Ended;
 
 /// An implementation to measure.
 #[derive(Clone, Copy)]
@@ -22,6 +27,10 @@ pub struct Contender {
     pub check_rewriting: Check,
     /// Its reader of texts.
     pub read_text: Read,
+    /// Its beginning of a walk.
+    pub fresh_walk: Begin,
+    /// Its message to a walk.
+    pub walk: Bring,
 }
 
 /// The unverified version in plain Rust.
@@ -35,6 +44,12 @@ pub const PLAIN: Contender = Contender {
         ))
     },
     read_text: |tables, text, plan_area| read(plain::read_text(tables, text, plan_area)),
+    fresh_walk: |tables, plan, marks| {
+        walked(|finished| plain::fresh_walk(tables, plan, marks, finished))
+    },
+    walk: |tables, plan, marks, message| {
+        walked(|finished| plain::walk(tables, plan, marks, message, finished))
+    },
 };
 
 /// The second implementation, written for comparison.
@@ -48,6 +63,12 @@ pub const REFERENCE: Contender = Contender {
         ))
     },
     read_text: |tables, text, plan_area| read(texts::read_text(tables, text, plan_area)),
+    fresh_walk: |tables, plan, marks| {
+        walked(|finished| walks::fresh_walk(tables, plan, marks, finished))
+    },
+    walk: |tables, plan, marks, message| {
+        walked(|finished| walks::walk(tables, plan, marks, message, finished))
+    },
 };
 
 fn unfolded(answer: unfolding::Answer) -> Ended {
@@ -80,6 +101,12 @@ fn read(answer: Result<usize, Refusal>) -> Ended {
     }
 }
 
+fn walked(call: impl FnOnce(&mut bool) -> Result<(), Refusal>) -> Ended {
+    let mut finished = false;
+    let answer = call(&mut finished);
+    read(answer.map(|()| usize::from(finished)))
+}
+
 /// The proved library; none where it is left out.
 #[cfg(not(feature = "archive"))]
 pub const PROVED: Option<Contender> = None;
@@ -98,5 +125,15 @@ pub const PROVED: Option<Contender> = Some(Contender {
     read_text: |tables, text, plan_area| {
         let read = aberulwy::raw::read_text(tables, text, plan_area);
         (read.number, 0, read.value)
+    },
+    fresh_walk: |tables, plan, marks| {
+        let mut finished = 0;
+        let answer = aberulwy::raw::fresh_walk(tables, plan, marks, &mut finished);
+        (answer.number, 0, finished)
+    },
+    walk: |tables, plan, marks, message| {
+        let mut finished = 0;
+        let answer = aberulwy::raw::walk(tables, plan, marks, message, &mut finished);
+        (answer.number, 0, finished)
     },
 });

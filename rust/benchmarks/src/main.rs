@@ -1,13 +1,14 @@
 //! Prints, as Markdown tables, what a step takes: in the proved library, in an unverified plain
-//! Rust version of the same algorithm, and in Maude; and what a character of a text takes in the
-//! first two. Ends at the first call on which the proved library and the plain version differ.
+//! Rust version of the same algorithm, and in Maude; and what a character of a text and a message
+//! to a walk take in the first two. Ends at the first call on which the proved library and the
+//! plain version differ.
 
-use benchmarks::contenders::{PLAIN, PROVED};
+use benchmarks::contenders::{PLAIN, PROVED, REFERENCE};
 use benchmarks::maude;
 use benchmarks::measuring::{cell, least_times, mean};
 use benchmarks::workloads::{
     growing_sums, merges_in_growing_areas, merges_of_longer_chains, single_action, sizes,
-    sum_tables, texts, Places, Reading, Replay, Unfolding, Workload, REPLAYED,
+    sum_tables, texts, walks, Places, Reading, Replay, Unfolding, Workload, REPLAYED,
 };
 use reference::plans::LONGEST_PLAN;
 use reference::tables::{actions, trial_tables};
@@ -25,9 +26,9 @@ fn main() {
     );
     println!("plan of one action. Maude: its own report, for one of many reductions of the plan;");
     println!(
-        "rewrites are the equations that it used for one. The last two tables are of texts, for"
+        "rewrites are the equations that it used for one. The last three tables are of texts, for"
     );
-    println!("a call and for a character.");
+    println!("a call and for a character, and of messages to walks, for a call and for a word.");
     match PROVED {
         Some(_) => println!("\nIn each row the proved library and the plain version were first called once each, and\nagreed in every number answered and in every lent byte."),
         None => println!("\nThe proved library is left out: build with `--features archive` to link it."),
@@ -43,6 +44,7 @@ fn main() {
     replays();
     short_texts();
     long_texts();
+    messages();
 }
 
 /// What the proved library and the plain version take.
@@ -72,9 +74,9 @@ impl Times {
         }
     }
 
-    /// What the steps or the text alone take: the call less the same call without them, which
+    /// What the steps, the text or the walk alone take: the call less a call without them, which
     /// take turns.
-    fn alone<Call: Workload>(call: &mut Call, mut empty: Call) -> Times {
+    fn alone(call: &mut impl Workload, mut empty: impl Workload) -> Times {
         let contenders = [Some(PLAIN), PROVED];
         let [plain, proved, empty_plain, empty_proved] = least_times(|index| {
             contenders[index % 2].map(|contender| match index {
@@ -284,4 +286,48 @@ fn long_texts() {
     }
     let [call, alone] = ratios.map(|ratios| cell(mean(&ratios)));
     println!("| geometric mean | | | | | {call} | | | | | {alone} |");
+}
+
+fn messages() {
+    println!("\n### Walks: a message\n");
+    println!(
+        "Nanoseconds for the call, and for a word of the plan. Every call judges tables, plan and"
+    );
+    println!(
+        "whether it is basic anew. Judging: what a fresh walk takes, which judges by the same"
+    );
+    println!(
+        "code, and then sets the marks alone. Walk alone: the call less that, for a word. One"
+    );
+    println!("mark, at the last word, or all words marked. Crusted coin: the plan that the bench");
+    println!("comes to. Deep: a chain of actions. Wide: a sum of products.\n");
+    println!("| plan | words | marks | call: proved | plain | proved/plain | reference | judging: proved | plain | a word: proved | plain | walk alone: proved | plain | proved/plain |");
+    println!("|---|--:|---|--:|--:|--:|--:|--:|--:|--:|--:|--:|--:|--:|");
+    let mut ratios: [Vec<f64>; 2] = Default::default();
+    for (names, mut walking) in walks() {
+        let words = walking.plan.len();
+        let call = Times::measure(&names, &mut walking);
+        let judging = Times::measure(&names, &mut walking.beginning());
+        let without_walk = walking.beginning();
+        let alone = Times::alone(&mut walking, without_walk).each(words);
+        let [reference] = least_times(|_| {
+            walking.run(REFERENCE);
+        });
+        let each = call.each(words);
+        println!(
+            "| {names} | {} | {} | {} | {} | {} | {} | {} |",
+            call.cells(),
+            cell(Some(reference)),
+            cell(judging.proved),
+            cell(Some(judging.plain)),
+            cell(each.proved),
+            cell(Some(each.plain)),
+            alone.cells(),
+        );
+        for (ratios, times) in ratios.iter_mut().zip([call, alone]) {
+            ratios.extend(times.ratio());
+        }
+    }
+    let [call, alone] = ratios.map(|ratios| cell(mean(&ratios)));
+    println!("| geometric mean | | | | | {call} | | | | | | | | {alone} |");
 }

@@ -1,10 +1,11 @@
-//! Calls to measure: plans to unfold, rewritings to replay and texts to read.
+//! Calls to measure: plans to unfold, rewritings to replay, texts to read and messages to walks.
 
 use crate::contenders::{Contender, Ended, PLAIN};
 use reference::plans::{CHOICE, ENCAPSULATION, LONGEST_PLAN, MERGE, PRODUCT, THETA};
 use reference::random::plans::{plan, small_plan};
 use reference::random::Random;
 use reference::runs::reached;
+use reference::stations::read_station;
 use reference::tables::{
     entry, trial_tables, COMMUNICATION, DEAD_STOP, PRIORITY, SETS, TABLES_LENGTH,
 };
@@ -483,9 +484,133 @@ pub fn texts() -> Vec<(&'static str, Reading)> {
     ]
 }
 
+/// A message to a walk, and what is lent.
+pub struct Walking {
+    tables: Vec<u8>,
+    /// The plan.
+    pub plan: Vec<u8>,
+    /// The marks that each call finds.
+    given: Vec<u8>,
+    message: u8,
+    marks: Vec<u8>,
+}
+
+/// Which words of a plan are marked.
+#[derive(Clone, Copy, Debug, PartialEq, Eq)]
+pub enum Marks {
+    /// The last one, as in a fresh walk.
+    One,
+    /// All of them.
+    All,
+}
+
+impl Walking {
+    /// A message to a walk of this plan.
+    pub fn new(tables: Vec<u8>, plan: Vec<u8>, marks: Marks, message: u8) -> Walking {
+        let mut given = vec![u8::from(marks == Marks::All); plan.len()];
+        given[plan.len() - 1] = 1;
+        let marks = given.clone();
+        Walking {
+            tables,
+            plan,
+            given,
+            message,
+            marks,
+        }
+    }
+
+    /// The beginning of a walk of the same plan: it judges as a message does, by the same code, and
+    /// then sets the marks alone.
+    pub fn beginning(&self) -> Beginning {
+        Beginning {
+            tables: self.tables.clone(),
+            plan: self.plan.clone(),
+            marks: self.given.clone(),
+        }
+    }
+}
+
+impl Workload for Walking {
+    fn run(&mut self, contender: Contender) -> Ended {
+        self.marks.copy_from_slice(&self.given);
+        (contender.walk)(&self.tables, &self.plan, &mut self.marks, self.message)
+    }
+
+    fn lent(&mut self) -> Vec<&mut [u8]> {
+        vec![&mut self.marks]
+    }
+}
+
+/// A walk to begin, and what is lent.
+pub struct Beginning {
+    tables: Vec<u8>,
+    plan: Vec<u8>,
+    marks: Vec<u8>,
+}
+
+impl Workload for Beginning {
+    fn run(&mut self, contender: Contender) -> Ended {
+        (contender.fresh_walk)(&self.tables, &self.plan, &mut self.marks)
+    }
+
+    fn lent(&mut self) -> Vec<&mut [u8]> {
+        vec![&mut self.marks]
+    }
+}
+
+/// The lengths of the plans that are walked, beside that of the bench: the last is that of the
+/// longest basic plans.
+const WALKED: [usize; 3] = [1023, 4095, LONGEST_PLAN - 1];
+
+/// A station file of the bench, and its first message.
+const BENCH: &[u8] = include_bytes!("../../../examples/bench/crusted-coin.station");
+const SETTLES: u8 = 13;
+
+/// The tables of the bench, and the basic plan that its plan unfolds to.
+fn bench() -> (Vec<u8>, Vec<u8>) {
+    let (mut tables, mut plan) = (vec![0; TABLES_LENGTH], vec![0; LONGEST_PLAN]);
+    let size = read_station(BENCH, &mut tables, &mut plan).expect("the file is accepted");
+    plan.truncate(size);
+    let unfolding = Unfolding::within(tables, plan, LONGEST_PLAN).expect("the bench unfolds");
+    (unfolding.tables, unfolding.reached)
+}
+
+/// A chain of so many words over four actions, each followed by all that is behind it.
+fn deep_plan(words: usize) -> Vec<u8> {
+    let mut plan: Vec<u8> = (1..=4).cycle().take(words.div_ceil(2)).collect();
+    plan.resize(words, PRODUCT);
+    plan
+}
+
+/// A sum of so many words: products of two of four actions.
+fn wide_plan(words: usize) -> Vec<u8> {
+    let product = |index: usize| {
+        let (a, b) = (1 + index % 4, 1 + index / 4 % 4);
+        vec![a as u8, b as u8, PRODUCT]
+    };
+    sum((0..words.div_ceil(4)).map(product))
+}
+
+/// The messages measured, each with the cells that name it: plan, words and marks.
+pub fn walks() -> Vec<(String, Walking)> {
+    let (tables, plan) = bench();
+    let mut plans = vec![("crusted coin", tables, plan, SETTLES)];
+    plans.extend(WALKED.map(|words| ("deep", trial_tables(), deep_plan(words), 1)));
+    plans.extend(WALKED.map(|words| ("wide", trial_tables(), wide_plan(words), 1)));
+    let with_marks = |(name, tables, plan, message): (&str, Vec<u8>, Vec<u8>, u8)| {
+        [(Marks::One, "one"), (Marks::All, "all")].map(|(marks, marked)| {
+            let cells = format!("{name} | {} | {marked}", plan.len());
+            let walking = Walking::new(tables.clone(), plan.clone(), marks, message);
+            (cells, walking)
+        })
+    };
+    plans.into_iter().flat_map(with_marks).collect()
+}
+
 #[cfg(test)]
 mod tests {
     use super::*;
+    use reference::plans::is_basic;
     use std::collections::HashSet;
 
     #[test]
@@ -550,6 +675,33 @@ mod tests {
                 let mut reading = Reading::new(trial_tables(), &text, LONGEST_PLAN);
                 assert_eq!(reading.run(PLAIN).0, number, "{text}");
             }
+        }
+    }
+
+    #[test]
+    fn messages_are_taken_in_basic_plans_of_these_lengths() {
+        let walks = walks();
+        let lengths: Vec<usize> = walks
+            .iter()
+            .map(|(_, walking)| walking.plan.len())
+            .collect();
+        let wanted = [45, 1023, 4095, 16_383, 1023, 4095, 16_383];
+        assert_eq!(lengths, wanted.map(|words| [words, words]).concat());
+        for (name, mut walking) in walks {
+            assert!(is_basic(&walking.plan), "{name}");
+            assert_eq!(walking.beginning().run(PLAIN), (0, 0, 0), "{name}");
+            let marked = walking.given.iter().filter(|&&mark| mark == 1).count();
+            let wanted = if name.ends_with("one") {
+                1
+            } else {
+                walking.plan.len()
+            };
+            assert_eq!(marked, wanted, "{name}");
+            // Each call finds the marks that are given, so each one is taken.
+            let first = walking.outcome(PLAIN);
+            assert_eq!(first.0 .0, 0, "{name}");
+            assert!(walking.outcome(PLAIN) == first, "{name}");
+            assert!(walking.marks != walking.given, "{name}");
         }
     }
 }

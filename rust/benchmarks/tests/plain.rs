@@ -3,11 +3,13 @@
 
 use benchmarks::contenders::{Contender, PLAIN, REFERENCE};
 use benchmarks::plain;
-use benchmarks::workloads::{stopped_merges, texts, Unfolding, Workload, MERGES, STOPPED_CHAINS};
+use benchmarks::workloads::{
+    stopped_merges, texts, walks, Unfolding, Workload, MERGES, STOPPED_CHAINS,
+};
 use differential::{compare, Answer, Call, Implementation, Reference};
 use reference::plans::LONGEST_PLAN;
 
-/// The plain version's unfolding, checker and reader of texts; the other calls are the
+/// The plain version's unfolding, checker, reader of texts and walks; the other calls are the
 /// reference's.
 struct Plain;
 
@@ -22,6 +24,14 @@ impl Implementation for Plain {
             }
             Call::ReadText(tables, text, plan_area) => {
                 Answer::counted(plain::read_text(tables, text, plan_area))
+            }
+            Call::FreshWalk(tables, plan, marks, finish) => Answer::walked(finish, |finished| {
+                plain::fresh_walk(tables, plan, marks, finished)
+            }),
+            Call::Walk(tables, plan, marks, message, finish) => {
+                Answer::walked(finish, |finished| {
+                    plain::walk(tables, plan, marks, message, finished)
+                })
             }
             other => Reference.answer(other),
         }
@@ -55,6 +65,32 @@ fn long_plans_agree_with_the_reference() {
 fn texts_agree_with_the_reference() {
     for (name, mut reading) in texts() {
         let same = reading.outcome(PLAIN) == reading.outcome(REFERENCE);
+        assert!(same, "{name}");
+    }
+}
+
+/// The messages of the benchmark.
+#[test]
+fn messages_agree_with_the_reference() {
+    for (name, mut walking) in walks() {
+        let same = walking.outcome(PLAIN) == walking.outcome(REFERENCE);
+        assert!(same, "{name}");
+        let mut beginning = walking.beginning();
+        let same = beginning.outcome(PLAIN) == beginning.outcome(REFERENCE);
+        assert!(same, "{name}");
+    }
+}
+
+/// The messages of the benchmark.
+#[cfg(feature = "archive")]
+#[test]
+fn messages_agree_with_the_proved_library() {
+    let proved = benchmarks::contenders::PROVED.expect("the archive is linked");
+    for (name, mut walking) in walks() {
+        let same = walking.outcome(PLAIN) == walking.outcome(proved);
+        assert!(same, "{name}");
+        let mut beginning = walking.beginning();
+        let same = beginning.outcome(PLAIN) == beginning.outcome(proved);
         assert!(same, "{name}");
     }
 }

@@ -65,6 +65,21 @@ impl Answer {
             Err(refusal) => Answer::refused(refusal),
         }
     }
+
+    /// The answer of a call that takes the finish of a walk as yes or no. The number of the finish
+    /// is 1 or 0 afterwards; under a refusal it is kept, unless the call changed what it says.
+    pub fn walked(
+        finish: &mut usize,
+        call: impl FnOnce(&mut bool) -> Result<(), Refusal>,
+    ) -> Answer {
+        let held = *finish != 0;
+        let mut finished = held;
+        let result = call(&mut finished);
+        if result.is_ok() || finished != held {
+            *finish = usize::from(finished);
+        }
+        Answer::counted(result.map(|()| 0))
+    }
 }
 
 impl From<unfolding::Answer> for Answer {

@@ -2,6 +2,7 @@
 
 use crate::answers::Answer;
 use crate::implementation::{Call, Implementation};
+use crate::walking::Walking;
 use reference::plans::{judge_plan, operands, LONGEST_PLAN};
 use reference::random::cases::{
     check_case, own_rewriting_case, station_case, station_file, tables_and_plan, unfold_case_of,
@@ -11,11 +12,14 @@ use reference::random::plans::{basic_plan, plan};
 use reference::random::rewritings::{damage_rewriting, derivation};
 use reference::random::tables::{damaged_tables, lawful_tables};
 use reference::random::texts::{long_text, text_case, text_case_of, TextCase};
+use reference::random::walks::{
+    fresh_walk_case, messages_case, walk_case, FreshWalkCase, MessagesCase, WalkCase,
+};
 use reference::random::Random;
 use reference::stations::{program, write_station};
 use reference::tables::trial_tables;
 
-/// One call, with everything handed to it.
+/// One call, with everything handed to it; or the calls of one walk.
 #[derive(Clone, Debug)]
 pub enum Case {
     /// Tables to judge.
@@ -40,6 +44,13 @@ pub enum Case {
     ListStation(ListCase),
     /// A plan typed in signs to read.
     ReadText(TextCase),
+    /// A walk to begin.
+    FreshWalk(FreshWalkCase),
+    /// A message to a walk with any marks.
+    Walk(WalkCase),
+    /// A walk to begin, and messages to it, each handed the marks and the finish that the call
+    /// before left.
+    Messages(MessagesCase),
 }
 
 /// What is handed to the unfolding with a check.
@@ -77,13 +88,29 @@ pub struct ListCase {
     pub out: Vec<u8>,
 }
 
-/// What a call answers, and every lent byte afterwards.
+/// What a call answers, and everything lent afterwards.
 #[derive(Clone, Debug, PartialEq, Eq)]
 pub struct Outcome {
     /// The answer.
     pub answer: Answer,
     /// The lent slices, in the order of the call's parameters.
     pub lent: Vec<Vec<u8>>,
+    /// The number of the finish, which is lent to a walk; none in every other call.
+    pub finish: Option<usize>,
+    /// Where the case has several calls, the outcomes of those before this one.
+    pub before: Vec<Outcome>,
+}
+
+impl Outcome {
+    /// The outcome of one call that is no walk.
+    fn of(answer: Answer, lent: Vec<Vec<u8>>) -> Outcome {
+        Outcome {
+            answer,
+            lent,
+            finish: None,
+            before: Vec::new(),
+        }
+    }
 }
 
 /// Plans of more words than this come in a small share of the cases: they are slow to draw and
@@ -100,7 +127,7 @@ impl Case {
     /// The case of this seed.
     pub fn draw(seed: u64) -> Case {
         let random = &mut Random::new(seed);
-        match random.below(23) {
+        match random.below(28) {
             0 => Case::JudgeTables(any_tables(random)),
             1 | 2 => {
                 let (tables, plan) = handed_in(random);
@@ -127,12 +154,25 @@ impl Case {
             16 | 17 => Case::UnfoldChecked(any_checked(random)),
             18 => Case::Reached(any_reached(random)),
             19 => Case::ListStation(any_listing(random)),
-            _ => Case::ReadText(any_text(random)),
+            20..=22 => Case::ReadText(any_text(random)),
+            23 => Case::FreshWalk(fresh_walk_case(random)),
+            24 | 25 => Case::Walk(walk_case(random)),
+            _ => Case::Messages(messages_case(random)),
         }
     }
 
-    /// Makes the call, leaving the case as it is.
+    /// Makes the call, or the calls of a walk, leaving the case as it is.
     pub fn run(&self, implementation: &impl Implementation) -> Outcome {
+        match self {
+            Case::FreshWalk(case) => Walking::before(case).begin(implementation),
+            Case::Walk(case) => Walking::on_the_way(case).bring(implementation, case.message),
+            Case::Messages(case) => Walking::before(&case.fresh).follow(implementation, case),
+            _ => self.make_call(implementation),
+        }
+    }
+
+    /// Makes the one call of a case that is no walk.
+    fn make_call(&self, implementation: &impl Implementation) -> Outcome {
         let mut lent: Vec<Vec<u8>> = self.lent().into_iter().cloned().collect();
         let call = match (self, &mut lent[..]) {
             (Case::JudgeTables(tables), _) => Call::JudgeTables(tables),
@@ -169,7 +209,7 @@ impl Case {
             _ => unreachable!("each case lends what its call takes"),
         };
         let answer = implementation.answer(call);
-        Outcome { answer, lent }
+        Outcome::of(answer, lent)
     }
 
     /// The slices lent, with the bytes they have before.

@@ -1,10 +1,10 @@
 //! What is compared: implementations of the calls.
 
 use crate::answers::Answer;
-use reference::{checking, own, plans, runs, stations, tables, texts, unfolding};
+use reference::{checking, own, plans, runs, stations, tables, texts, unfolding, walks};
 
-/// One call, with what is handed to it in the order of its parameters. It may change the mutable
-/// slices alone.
+/// One call, with what is handed to it in the order of its parameters. It may change what is
+/// mutable alone.
 #[derive(Debug)]
 pub enum Call<'c> {
     /// Judges tables.
@@ -53,6 +53,10 @@ pub enum Call<'c> {
     ListStation(&'c [u8], &'c mut [u8]),
     /// Reads a plan typed in signs: tables, text, plan area; answers the plan's size.
     ReadText(&'c [u8], &'c [u8], &'c mut [u8]),
+    /// Begins a walk: tables, plan, marks, the number of the finish.
+    FreshWalk(&'c [u8], &'c [u8], &'c mut [u8], &'c mut usize),
+    /// Brings a message to a walk: tables, plan, marks, message, the number of the finish.
+    Walk(&'c [u8], &'c [u8], &'c mut [u8], u8, &'c mut usize),
 }
 
 /// Whatever answers all calls. One that has only some of them hands the others on to another one.
@@ -102,6 +106,14 @@ impl Implementation for Reference {
             Call::ReadText(tables, text, plan_area) => {
                 Answer::counted(texts::read_text(tables, text, plan_area))
             }
+            Call::FreshWalk(tables, plan, marks, finish) => Answer::walked(finish, |finished| {
+                walks::fresh_walk(tables, plan, marks, finished)
+            }),
+            Call::Walk(tables, plan, marks, message, finish) => {
+                Answer::walked(finish, |finished| {
+                    walks::walk(tables, plan, marks, message, finished)
+                })
+            }
         }
     }
 }
@@ -138,6 +150,12 @@ impl Implementation for Proved {
             Call::ListStation(file, out) => raw::list_station(file, out).into(),
             Call::ReadText(tables, text, plan_area) => {
                 raw::read_text(tables, text, plan_area).into()
+            }
+            Call::FreshWalk(tables, plan, marks, finish) => {
+                raw::fresh_walk(tables, plan, marks, finish).into()
+            }
+            Call::Walk(tables, plan, marks, message, finish) => {
+                raw::walk(tables, plan, marks, message, finish).into()
             }
         }
     }

@@ -1,5 +1,5 @@
 //! Random cases run through two implementations of the public calls, and compared: the number
-//! answered, the place, every other number, and every lent byte.
+//! answered, the place, every other number, and everything lent.
 //!
 //! An [`Implementation`] is whatever answers every [`Call`]. [`compare()`] runs
 //! seeded cases until the first difference, which it makes smaller while it stays.
@@ -13,6 +13,7 @@ mod compare;
 mod implementation;
 mod printing;
 mod shrink;
+mod walking;
 
 pub use answers::Answer;
 pub use cases::{Case, CheckedCase, ListCase, Outcome, ReachedCase};

@@ -3,6 +3,7 @@
 use crate::cases::{Case, Outcome};
 use crate::compare::{Agreement, Difference};
 use reference::random::cases::UnfoldCase;
+use reference::random::walks::FreshWalkCase;
 use std::fmt;
 
 /// Bytes: as they are, or in short where there are many and all are the same.
@@ -80,6 +81,16 @@ impl fmt::Display for Case {
                 writeln!(f, "  text: \"{}\"", case.text.escape_ascii())?;
                 writeln!(f, "  plan area: {}", Bytes(&case.plan))
             }
+            Case::FreshWalk(case) => fresh_walk(f, "fresh_walk", case),
+            Case::Walk(case) => {
+                judged(f, "walk", &case.tables, &case.plan)?;
+                progress(f, &case.marks, case.finished)?;
+                writeln!(f, "  message: {}", case.message)
+            }
+            Case::Messages(case) => {
+                fresh_walk(f, "fresh_walk, then walk", &case.fresh)?;
+                writeln!(f, "  messages: {}", Bytes(&case.messages))
+            }
         }
     }
 }
@@ -92,6 +103,16 @@ fn unfolding(f: &mut fmt::Formatter<'_>, call: &str, case: &UnfoldCase) -> fmt::
     writeln!(f, "  b: {}", Bytes(&case.b))
 }
 
+fn fresh_walk(f: &mut fmt::Formatter<'_>, calls: &str, case: &FreshWalkCase) -> fmt::Result {
+    judged(f, calls, &case.tables, &case.plan)?;
+    progress(f, &case.marks, case.finished)
+}
+
+fn progress(f: &mut fmt::Formatter<'_>, marks: &[u8], finished: bool) -> fmt::Result {
+    writeln!(f, "  marks: {}", Bytes(marks))?;
+    writeln!(f, "  finished: {finished}")
+}
+
 fn judged(f: &mut fmt::Formatter<'_>, call: &str, tables: &[u8], plan: &[u8]) -> fmt::Result {
     writeln!(f, "{call}")?;
     writeln!(f, "  tables: {}", Sparse(tables))?;
@@ -100,6 +121,9 @@ fn judged(f: &mut fmt::Formatter<'_>, call: &str, tables: &[u8], plan: &[u8]) ->
 
 impl fmt::Display for Outcome {
     fn fmt(&self, f: &mut fmt::Formatter<'_>) -> fmt::Result {
+        for before in &self.before {
+            write!(f, "{before}\n    ")?;
+        }
         let (number, place) = (self.answer.number, self.answer.place);
         write!(
             f,
@@ -108,6 +132,9 @@ impl fmt::Display for Outcome {
         )?;
         if self.answer.own != [0; 5] {
             write!(f, ", own {:?}", self.answer.own)?;
+        }
+        if let Some(finish) = self.finish {
+            write!(f, ", finish {finish}")?;
         }
         for lent in &self.lent {
             write!(f, "\n    {}", Bytes(lent))?;

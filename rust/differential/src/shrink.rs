@@ -4,11 +4,13 @@ use crate::cases::{Case, CheckedCase, ListCase, ReachedCase};
 use reference::plans::{judge, operands, subplan, LONGEST_PLAN};
 use reference::random::cases::{CheckCase, StationCase, UnfoldCase};
 use reference::random::texts::TextCase;
+use reference::random::walks::{FreshWalkCase, MessagesCase, WalkCase};
 use reference::stations::{read_station, write_station};
 use reference::tables::{trial_tables, TABLES_LENGTH};
 use reference::texts::{read_text, typed};
 use reference::unfolding::RECORD;
 use std::iter;
+use std::ops::Range;
 
 /// How many cases are tried at most.
 const MOST_TRIES: usize = 3000;
@@ -47,6 +49,9 @@ fn smaller(case: &Case) -> Vec<Case> {
         Case::Reached(case) => smaller_reached(case),
         Case::ListStation(case) => smaller_listings(case),
         Case::ReadText(case) => smaller_readings(case),
+        Case::FreshWalk(case) => each(smaller_fresh_walks(case), Case::FreshWalk),
+        Case::Walk(case) => smaller_walks(case),
+        Case::Messages(case) => smaller_messages(case),
     };
     found.retain(|case| weight(case) < size);
     found
@@ -78,7 +83,20 @@ fn weight(case: &Case) -> u64 {
         }
         Case::ListStation(case) => bytes(&[&case.file]) + unlike(&[&case.out]),
         Case::ReadText(case) => bytes(&[&case.tables, &case.text]) + unlike(&[&case.plan]),
+        Case::FreshWalk(case) => fresh_walk_weight(case),
+        Case::Walk(case) => {
+            // A mark of 1 is the plainest.
+            let odd = case.marks.iter().filter(|&&mark| mark > 1).count() as u64;
+            bytes(&[&case.tables, &case.plan, &case.marks]) + odd + u64::from(case.finished)
+        }
+        Case::Messages(case) => fresh_walk_weight(&case.fresh) + bytes(&[&case.messages]),
     }
+}
+
+fn fresh_walk_weight(case: &FreshWalkCase) -> u64 {
+    let bytes = [&case.tables, &case.plan].map(|slice| 4 * slice.len() + set(slice));
+    let lent = unlike(&[&case.marks]) + u64::from(case.finished);
+    bytes.iter().sum::<usize>() as u64 + lent
 }
 
 fn unfolding_weight(case: &UnfoldCase) -> u64 {
@@ -199,6 +217,43 @@ fn smaller_readings(case: &TextCase) -> Vec<Case> {
     each(changed.found, Case::ReadText)
 }
 
+fn smaller_fresh_walks(case: &FreshWalkCase) -> Vec<FreshWalkCase> {
+    Changed::of(case)
+        .with(smaller_marked(&case.plan, &case.marks), |case, marked| {
+            (case.plan, case.marks) = marked
+        })
+        .with(smaller_lent(&case.marks), |case, marks| case.marks = marks)
+        .with(vec![false], |case, finished| case.finished = finished)
+        .with(smaller_tables(&case.tables), |case, tables| {
+            case.tables = tables
+        })
+        .found
+}
+
+fn smaller_walks(case: &WalkCase) -> Vec<Case> {
+    let changed = Changed::of(case)
+        .with(smaller_marked(&case.plan, &case.marks), |case, marked| {
+            (case.plan, case.marks) = marked
+        })
+        .with(smaller_marks(&case.marks), |case, marks| case.marks = marks)
+        .with(vec![false], |case, finished| case.finished = finished)
+        .with(smaller_tables(&case.tables), |case, tables| {
+            case.tables = tables
+        });
+    each(changed.found, Case::Walk)
+}
+
+fn smaller_messages(case: &MessagesCase) -> Vec<Case> {
+    let changed = Changed::of(case)
+        .with(smaller_lists(&case.messages), |case, messages| {
+            case.messages = messages
+        })
+        .with(smaller_fresh_walks(&case.fresh), |case, fresh| {
+            case.fresh = fresh
+        });
+    each(changed.found, Case::Messages)
+}
+
 fn smaller_checks(case: &CheckCase) -> Vec<Case> {
     let rewritings = smaller_rewritings(&case.rewriting);
     let changed = Changed::of(case)
@@ -266,31 +321,92 @@ fn smaller_rewritings(rewriting: &[u8]) -> Vec<Vec<u8>> {
     found
 }
 
+/// Beginnings, and the list without one of its messages.
+fn smaller_lists(messages: &[u8]) -> Vec<Vec<u8>> {
+    let beginnings = smaller_numbers(messages.len()).into_iter();
+    let mut found: Vec<Vec<u8>> = beginnings
+        .map(|length| messages[..length].to_vec())
+        .collect();
+    found.extend((0..messages.len()).map(|at| left_out(at..at + 1).of(messages, 0)));
+    found
+}
+
+/// Shorter marks, marks that are plain, and marks with some of them taken away, as many as a half
+/// at first and one at last.
+fn smaller_marks(marks: &[u8]) -> Vec<Vec<u8>> {
+    let lengths = smaller_numbers(marks.len()).into_iter();
+    let mut found: Vec<Vec<u8>> = lengths.map(|length| marks[..length].to_vec()).collect();
+    found.push(marks.iter().map(|&mark| mark.min(1)).collect());
+    let parts = iter::successors(Some(marks.len()), |length| Some(length / 2));
+    for part in parts.take_while(|&length| length > 0) {
+        for from in (0..marks.len()).step_by(part).take(64) {
+            found.push(emptied(marks, from, marks.len().min(from + part)));
+        }
+    }
+    found
+}
+
+/// A plan and its marks made smaller together, so that each word that stays keeps its mark; where
+/// the marks are of another length, the plan alone.
+fn smaller_marked(plan: &[u8], marks: &[u8]) -> Vec<(Vec<u8>, Vec<u8>)> {
+    let marked = |cut: Cut| match plan.len() == marks.len() {
+        true => (cut.of(plan, 0), cut.of(marks, marks[cut.whole.end - 1])),
+        false => (cut.of(plan, 0), marks.to_vec()),
+    };
+    cuts(plan).into_iter().map(marked).collect()
+}
+
 /// Subplans, the plan with a subplan replaced by one of its operands or by an action, and the
 /// bytes with a part left out.
 fn smaller_plans(plan: &[u8]) -> Vec<Vec<u8>> {
+    cuts(plan).iter().map(|cut| cut.of(plan, 0)).collect()
+}
+
+/// How a plan is made smaller: of the bytes in a range a part is kept, or one byte stands for
+/// them all.
+struct Cut {
+    whole: Range<usize>,
+    kept: Option<Range<usize>>,
+}
+
+impl Cut {
+    /// The bytes made smaller, with this one where one stands for a range.
+    fn of(&self, bytes: &[u8], instead: u8) -> Vec<u8> {
+        let (before, behind) = (&bytes[..self.whole.start], &bytes[self.whole.end..]);
+        match &self.kept {
+            Some(kept) => [before, &bytes[kept.clone()], behind].concat(),
+            None => [before, &[instead], behind].concat(),
+        }
+    }
+}
+
+/// A range left out.
+fn left_out(whole: Range<usize>) -> Cut {
+    let kept = Some(whole.start..whole.start);
+    Cut { whole, kept }
+}
+
+/// How a plan can be made smaller.
+fn cuts(plan: &[u8]) -> Vec<Cut> {
     let mut found = Vec::new();
     if judge(&any_actions(), plan).is_ok() {
         for place in (0..plan.len()).rev().take(64) {
-            let whole = subplan(plan, place);
-            let start = place + 1 - whole.len();
+            let whole = place + 1 - subplan(plan, place).len()..place + 1;
             let mut end = place;
             for _ in 0..operands(plan[place]) {
-                let operand = subplan(plan, end - 1);
-                end -= operand.len();
-                found.push([&plan[..start], operand, &plan[place + 1..]].concat());
+                let from = end - subplan(plan, end - 1).len();
+                found.push(Cut {
+                    whole: whole.clone(),
+                    kept: Some(from..end),
+                });
+                end = from;
             }
-            found.push([&plan[..start], &[0], &plan[place + 1..]].concat());
+            found.push(Cut { whole, kept: None });
         }
     } else {
-        found.extend(
-            smaller_numbers(plan.len())
-                .into_iter()
-                .map(|length| plan[..length].to_vec()),
-        );
-        for at in 0..plan.len().min(64) {
-            found.push([&plan[..at], &plan[at + 1..]].concat());
-        }
+        let lengths = smaller_numbers(plan.len()).into_iter();
+        found.extend(lengths.map(|length| left_out(length..plan.len())));
+        found.extend((0..plan.len().min(64)).map(|at| left_out(at..at + 1)));
     }
     found
 }
@@ -378,9 +494,9 @@ fn restricted(tables: &[u8], n: u8) -> Vec<u8> {
     fewer
 }
 
-/// The tables with some bytes zero.
-fn emptied(tables: &[u8], from: usize, to: usize) -> Vec<u8> {
-    let mut emptied = tables.to_vec();
+/// The bytes with some of them zero.
+fn emptied(bytes: &[u8], from: usize, to: usize) -> Vec<u8> {
+    let mut emptied = bytes.to_vec();
     emptied[from..to].fill(0);
     emptied
 }

@@ -1,10 +1,11 @@
-//! The comparison finds damage: copies of the reference, each with one constant changed.
+//! The comparison finds damage: copies of the reference, each with one thing changed.
 
-use differential::{compare, Answer, Call, Case, Implementation, Reference};
+use differential::{compare, Answer, Call, Case, Implementation, Outcome, Reference};
+use reference::plans::{is_basic, subplan};
 use reference::random::Random;
 use std::collections::BTreeSet;
 
-/// The constant that is changed in a copy.
+/// What is changed in a copy.
 #[derive(Clone, Copy, Debug, PartialEq, Eq)]
 enum Damage {
     /// Nothing is changed.
@@ -85,11 +86,45 @@ enum Damage {
     TextFilling,
     /// The area is cleared where the plan is too long for it.
     TextKeeping,
+    /// A fresh walk leaves all marks but the last.
+    FreshMarks,
+    /// A fresh walk leaves the finish.
+    FreshFinish,
+    /// A fresh walk takes marks longer than the plan.
+    FreshLength,
+    /// A message that is taken leaves the marks that were there.
+    WalkMarks,
+    /// A mark is written as 255.
+    WalkWritten,
+    /// A finish that is reached stays reached.
+    WalkFinish,
+    /// A message that no path goes on with takes the first mark away.
+    WalkKeeping,
+    /// An action outside 1 to n sets the finish to 0.
+    WalkHeld,
+    /// Of the subplans that a message leads to, the first alone is marked.
+    WalkBranch,
+    /// A sum hands its mark to its second summand alone.
+    WalkSum,
+    /// A mark at the first factor of a product is passed over.
+    WalkFactor,
+    /// The byte 2 is no mark.
+    WalkMark,
+    /// No path goes on with an action outside 1 to n: that counts first.
+    WalkOutside,
+    /// The action n is outside 1 to n.
+    WalkLast,
+    /// Dead stop as a message counts before a plan that is not basic, or marks of another length.
+    WalkOrder,
+    /// A walk takes marks longer than the plan.
+    WalkLength,
+    /// No path goes on with a message that only finishes.
+    WalkEnd,
 }
 
 use Damage::*;
 
-const ALL: [Damage; 38] = [
+const ALL: [Damage; 55] = [
     MostActions,
     TripleWeight,
     LongestPlan,
@@ -128,6 +163,23 @@ const ALL: [Damage; 38] = [
     TextRoom,
     TextFilling,
     TextKeeping,
+    FreshMarks,
+    FreshFinish,
+    FreshLength,
+    WalkMarks,
+    WalkWritten,
+    WalkFinish,
+    WalkKeeping,
+    WalkHeld,
+    WalkBranch,
+    WalkSum,
+    WalkFactor,
+    WalkMark,
+    WalkOutside,
+    WalkLast,
+    WalkOrder,
+    WalkLength,
+    WalkEnd,
 ];
 
 /// The reference with damage.
@@ -401,6 +453,97 @@ impl Damaged {
         }
         answer
     }
+
+    fn fresh_walk(
+        &self,
+        tables: &[u8],
+        plan: &[u8],
+        marks: &mut [u8],
+        finish: &mut usize,
+    ) -> Answer {
+        let (before, held) = (marks.to_vec(), *finish);
+        let shown = match self.0 {
+            FreshLength => marks.len().min(plan.len()),
+            _ => marks.len(),
+        };
+        let call = Call::FreshWalk(tables, plan, &mut marks[..shown], finish);
+        let answer = Reference.answer(call);
+        match (self.0, answer.number) {
+            (FreshMarks, 0) => marks[..shown - 1].copy_from_slice(&before[..shown - 1]),
+            (FreshFinish, 0) => *finish = held,
+            _ => {}
+        }
+        answer
+    }
+
+    /// The marks as the damaged copy reads them in a plan.
+    fn read_marks(&self, tables: &[u8], plan: &[u8], marks: &[u8]) -> Vec<u8> {
+        let mut read = marks.to_vec();
+        let basic = Reference.answer(Call::IsBasic(tables, plan)).values[0] == 1;
+        if !basic || plan.len() != marks.len() {
+            return read;
+        }
+        for place in (0..plan.len()).rev() {
+            match (self.0, plan[place]) {
+                (WalkMark, _) if marks[place] == 2 => read[place] = 0,
+                (WalkFactor, 65) => read[place - 1 - subplan(plan, place - 1).len()] = 0,
+                // Its mark goes to the second summand, so the first has none of it.
+                (WalkSum, 64) if read[place] != 0 => {
+                    read[place] = 0;
+                    read[place - 1] = 1;
+                }
+                _ => {}
+            }
+        }
+        read
+    }
+
+    fn walk(
+        &self,
+        tables: &[u8],
+        plan: &[u8],
+        marks: &mut [u8],
+        message: u8,
+        finish: &mut usize,
+    ) -> Answer {
+        let (before, held) = (marks.to_vec(), *finish);
+        let shown = match self.0 {
+            WalkLength => marks.len().min(plan.len()),
+            _ => marks.len(),
+        };
+        let mut after = self.read_marks(tables, plan, &before);
+        let call = Call::Walk(tables, plan, &mut after[..shown], message, finish);
+        let answer = Reference.answer(call);
+        if answer.number == 0 {
+            marks.copy_from_slice(&after);
+        }
+        let mut set = marks.iter_mut().filter(|mark| **mark != 0);
+        match (self.0, answer.number) {
+            (WalkMarks, 0) => {
+                let left = marks.iter_mut().zip(before).filter(|(_, old)| *old != 0);
+                left.for_each(|(mark, old)| *mark = old);
+            }
+            (WalkWritten, 0) => set.for_each(|mark| *mark = 255),
+            (WalkFinish, 0) if held != 0 => *finish = 1,
+            (WalkKeeping, 72) => set.take(1).for_each(|mark| *mark = 0),
+            (WalkHeld, 71) => *finish = 0,
+            (WalkBranch, 0) => set.skip(1).for_each(|mark| *mark = 0),
+            (WalkOutside, 71) => return refusal(72),
+            (WalkOrder, 70) if message == 0 => return refusal(71),
+            (WalkLast, 0 | 72) if message == tables[0] => {
+                marks.copy_from_slice(&before);
+                *finish = held;
+                return refusal(71);
+            }
+            (WalkEnd, 0) if set.next().is_none() => {
+                marks.copy_from_slice(&before);
+                *finish = held;
+                return refusal(72);
+            }
+            _ => {}
+        }
+        answer
+    }
 }
 
 /// The place of the first bracket that is open in 199 others.
@@ -440,6 +583,12 @@ impl Implementation for Damaged {
             }
             Call::ListStation(file, out) => self.list_station(file, out),
             Call::ReadText(tables, text, plan_area) => self.read_text(tables, text, plan_area),
+            Call::FreshWalk(tables, plan, marks, finish) => {
+                self.fresh_walk(tables, plan, marks, finish)
+            }
+            Call::Walk(tables, plan, marks, message, finish) => {
+                self.walk(tables, plan, marks, message, finish)
+            }
         }
     }
 }
@@ -450,7 +599,7 @@ fn an_undamaged_copy_agrees() {
     assert_eq!(agreement.numbers.values().sum::<u64>(), 4000);
     // Every number but some rare ones comes up.
     let met: Vec<u8> = agreement.numbers.into_keys().collect();
-    let listed = [1..=8, 11..=18, 31..=36, 51..=55, 61..=63];
+    let listed = [1..=8, 11..=18, 31..=36, 51..=55, 61..=63, 70..=72];
     for number in listed.into_iter().flatten() {
         assert!(met.contains(&number), "{number}");
     }
@@ -496,6 +645,39 @@ fn a_text_is_made_small_and_printed() {
     let difference = compare(&Reference, &Damaged(TextZero), 10_000, 3).unwrap_err();
     let printed = difference.to_string();
     assert!(printed.contains("  text: \"00\"\n"), "{printed}");
+}
+
+#[test]
+fn a_walk_is_made_small_and_printed() {
+    let difference = compare(&Reference, &Damaged(WalkBranch), 10_000, 3).unwrap_err();
+    let Case::Walk(case) = &difference.case else {
+        panic!("{difference}");
+    };
+    // Two products, each with a mark, and nothing else.
+    let marks = [0, 0, 1, 0, 0, 1, 0];
+    assert_eq!(
+        (case.plan.len(), &case.marks[..]),
+        (7, &marks[..]),
+        "{difference}"
+    );
+    let printed = difference.to_string();
+    assert!(printed.contains("  marks: [0, 0, 1, 0, 0, 1, 0]\n  finished: false\n"));
+    assert!(
+        printed.contains(", finish 0\n    [0, 1, 0, 0, 1, 0, 0]\n"),
+        "{printed}"
+    );
+    // A list of messages needs one; each call is printed.
+    let difference = compare(&Reference, &Damaged(WalkSum), 10_000, 3).unwrap_err();
+    let Case::Messages(case) = &difference.case else {
+        panic!("{difference}");
+    };
+    assert_eq!(
+        (case.messages.len(), case.fresh.plan.len()),
+        (1, 5),
+        "{difference}"
+    );
+    let printed = difference.to_string();
+    assert_eq!(printed.matches("number 0, ").count(), 4, "{printed}");
 }
 
 #[test]
@@ -589,4 +771,92 @@ fn every_kind_of_text_is_drawn() {
         ]
     );
     assert_eq!(longest, 16_384);
+}
+
+/// The plan of a walk, and the outcome of each of its calls; none for another case.
+fn walked(case: &Case) -> Option<(&[u8], Vec<Outcome>)> {
+    let plan = match case {
+        Case::FreshWalk(case) => &case.plan,
+        Case::Walk(case) => &case.plan,
+        Case::Messages(case) => &case.fresh.plan,
+        _ => return None,
+    };
+    let last = case.run(&Reference);
+    let mut outcomes = last.before.clone();
+    outcomes.push(last);
+    Some((plan, outcomes))
+}
+
+#[test]
+fn every_kind_of_walk_is_drawn() {
+    let (mut met, mut longest) = (BTreeSet::new(), 0);
+    for seed in 0..8000 {
+        let case = Case::draw(seed);
+        let Some((plan, outcomes)) = walked(&case) else {
+            continue;
+        };
+        let begins = !matches!(case, Case::Walk(_));
+        for (index, outcome) in outcomes.iter().enumerate() {
+            let marks = &outcome.lent[0];
+            let marked = marks.iter().filter(|&&mark| mark != 0).count();
+            let begun = begins && index == 0;
+            met.insert(match (outcome.answer.number, outcome.finish) {
+                (1..=8, _) => "tables",
+                (11..=14, _) => "plan",
+                (70, _) if !is_basic(plan) => "not basic",
+                (70, _) if marks.len() < plan.len() => "marks too short",
+                (70, _) => "marks too long",
+                (71, _) => "outside",
+                (72, _) if marked == 0 => "no path, no mark",
+                (72, Some(0)) => "no path",
+                (72, _) => "no path, but a finish before",
+                (_, _) if begun => "begun",
+                (_, Some(0)) if marked > 1 => "taken, several marks",
+                (_, Some(0)) => "taken, one mark",
+                (_, _) if marked > 0 => "taken, marks and a finish",
+                (_, _) => "taken, a finish alone",
+            });
+            if outcome.answer.number == 0 {
+                longest = longest.max(plan.len());
+            }
+        }
+    }
+    let kinds: Vec<&str> = met.into_iter().collect();
+    assert_eq!(
+        kinds,
+        [
+            "begun",
+            "marks too long",
+            "marks too short",
+            "no path",
+            "no path, but a finish before",
+            "no path, no mark",
+            "not basic",
+            "outside",
+            "plan",
+            "tables",
+            "taken, a finish alone",
+            "taken, marks and a finish",
+            "taken, one mark",
+            "taken, several marks"
+        ]
+    );
+    assert_eq!(longest, 16_383);
+}
+
+#[test]
+fn messages_are_taken_one_after_the_other() {
+    let (mut taken, mut turned_back) = (0, 0);
+    for seed in 0..8000 {
+        let case = Case::draw(seed);
+        if let (Case::Messages(_), Some((_, outcomes))) = (&case, walked(&case)) {
+            let numbers = outcomes.iter().map(|outcome| outcome.answer.number);
+            let numbers: Vec<u8> = numbers.skip(1).collect();
+            taken = taken.max(numbers.iter().filter(|&&number| number == 0).count());
+            let refused = |pair: &&[u8]| matches!(pair, [71 | 72, 0]);
+            turned_back += numbers.windows(2).filter(refused).count();
+        }
+    }
+    // Many in one walk, and some right behind one that was refused.
+    assert!(taken > 5 && turned_back > 20, "{taken}, {turned_back}");
 }

@@ -8,7 +8,7 @@
 use aberulwy::{raw, LONGEST_LISTING};
 use benchmarks::contenders::PROVED;
 use benchmarks::workloads::{
-    deep_texts, long_sum, stopped_merges, Places, Replay, Workload, MERGES, STOPPED_CHAINS,
+    deep_texts, long_sum, stopped_merges, walks, Places, Replay, Workload, MERGES, STOPPED_CHAINS,
 };
 use reference::plans::LONGEST_PLAN;
 use reference::stations::write_station;
@@ -23,7 +23,7 @@ use std::thread::Builder;
 const ENOUGH: usize = 4096;
 /// A thread that asks for less may get more, so less is not tried.
 const LITTLE: usize = 32;
-const CALLS: [&str; 11] = [
+const CALLS: [&str; 13] = [
     "judge_tables",
     "judge_plan",
     "is_basic",
@@ -35,6 +35,8 @@ const CALLS: [&str; 11] = [
     "read_station",
     "list_station",
     "read_text",
+    "fresh_walk",
+    "walk",
 ];
 
 fn main() {
@@ -133,6 +135,20 @@ fn prepared(call: &str) -> Box<dyn FnOnce() -> u8 + Send> {
                     |text: &String| raw::read_text(&tables, text.as_bytes(), &mut area).number;
                 let right = read.iter().all(|text| number(text) == 0)
                     && refused.iter().all(|text| number(text) == 62);
+                u8::from(!right)
+            })
+        }
+        "fresh_walk" => {
+            let (mut marks, mut finished) = (vec![0; plan.len()], 0);
+            Box::new(move || raw::fresh_walk(&tables, &plan, &mut marks, &mut finished).number)
+        }
+        "walk" => {
+            // Plans of all lengths, deep and wide, with one mark and with all words marked.
+            let mut messages = walks();
+            Box::new(move || {
+                let right = messages
+                    .iter_mut()
+                    .all(|(_, message)| message.run(proved).0 == 0);
                 u8::from(!right)
             })
         }

@@ -7,6 +7,7 @@
 //! - the checker: `words`, `word_laws`, `gap`, `checking`
 //! - the unfolding: `records`, `graph`, `graph_laws`, `graph_steps`, `unfolding`
 //! - the reader of texts, which uses none of them: `texts`
+//! - the walks, which use none either: `walks`
 
 mod areas;
 mod checking;
@@ -17,9 +18,11 @@ mod graph_steps;
 mod records;
 mod texts;
 mod unfolding;
+mod walks;
 mod word_laws;
 mod words;
 
 pub use checking::check_rewriting;
 pub use texts::read_text;
 pub use unfolding::unfold;
+pub use walks::{fresh_walk, walk};

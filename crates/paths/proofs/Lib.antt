@@ -1,0 +1,5 @@
+pub mod Paths
+pub mod Subplans
+pub mod Standing
+pub mod Parts
+pub mod Starting

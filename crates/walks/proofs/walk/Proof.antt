@@ -1,0 +1,113 @@
+-- `walks::walk` meets its contract: each refusal leaves everything, and a message of 1 to n is taken or not.
+use borrow.Author.Needs.{needs}
+use Rattle.walks.proofs.walk.Statement.{statement}
+use Rattle.walks.proofs.walk.Tie as tie
+use Prim.Native.Nat.{ℕ, _<_}
+use mathlib.Core.Path.{_≡_, sym, _∙_, subst}
+use mathlib.Core.Bool.{false}
+use mathlib.Core.Option.{none}
+use lib.ListN.{length-replicate}
+use Rattle.refusals.proofs.Judging.{accepted-none}
+use Rattle.walks.specs.Progress.{Progress, outside?}
+use Rattle.walks.specs.Outcome.{not-walkable-refusal}
+use Rattle.walks.specs.Turns.{Walking}
+use Rattle.walks.proofs.Outcomes.{walk-refused-as, walk-outside-as, walk-on-as, walking, outside-zero, outside-high, outside-none}
+
+abbrev start : tie.After-judge-walk → tie.Start
+start c = c .before .before .before .before .before
+
+abbrev given : tie.After-actions-of → tie.Start
+given c = start (c .before .before .before)
+
+accepted : (c : tie.After-actions-of) → let s = given c .args in not-walkable-refusal (s .tables .now) (s .plan .now) (s .marks .now) ≡ none
+accepted c = accepted-none _ (sym (c .before .before .before .judge-walk .ensures) ∙ c .before .enum-told2 .given .1)
+
+-- the progress that was lent
+abbrev lent : tie.Start → Progress
+lent s = record { marks = s .args .marks .now; finish = s .args .finished .now }
+
+-- the message is within 1 to n
+within : (c : tie.Else2) → outside? (c .before .before .actions-of .result) (given (c .before .before) .args .message) ≡ false
+within c = outside-none _ _ (c .before .if1 .left) (c .if2 .left)
+
+judge-walk-requires : tie.Need-judge-walk-requires
+judge-walk-requires c κs = search needs
+
+enum-told : tie.Need-enum-told
+enum-told c = search needs
+
+same-length : tie.Need-same-length
+same-length c = search needs
+
+returns : tie.Need-returns
+returns c = let k = c .before .before in walk-refused-as _ _ (lent (start k)) _ (k .judge-walk .ensures) (c .enum-told .given .1)
+
+enum-told-2 : tie.Need-enum-told-2
+enum-told-2 c = search needs
+
+actions-of-requires : tie.Need-actions-of-requires
+actions-of-requires c κs = search needs
+
+refused-requires : tie.Need-refused-requires
+refused-requires c κs = search needs
+
+same-length-2 : tie.Need-same-length-2
+same-length-2 c = search needs
+
+returns-2 : tie.Need-returns-2
+returns-2 c =
+    let k = c .before .before in
+    walk-outside-as _ _ (lent (given k)) _ (accepted k) (outside-zero _ _ (c .before .if1 .taken)) (c .refused .ensures)
+
+refused-requires-2 : tie.Need-refused-requires-2
+refused-requires-2 c κs = search needs
+
+same-length-3 : tie.Need-same-length-3
+same-length-3 c = search needs
+
+returns-3 : tie.Need-returns-3
+returns-3 c =
+    let k = c .before .before .before in
+    walk-outside-as _ _ (lent (given k)) _ (accepted k) (outside-high _ _ (subst (λ n. n < given k .args .message) (k .actions-of .ensures) (c .before .if2 .taken))) (c .refused2 .ensures)
+
+slice-aggregate-take-message : tie.Need-slice-aggregate-take-message
+slice-aggregate-take-message c = search needs
+
+take-message-requires : tie.Need-take-message-requires
+take-message-requires c κs =
+    let e = c .before .before .before in
+    let k = e .before .before in
+    let s = given k .args in
+    (subst (λ n. Walking n (s .plan .now) (s .marks .now)) (sym (k .actions-of .ensures)) (walking _ _ _ (accepted k)), within e, length-replicate {A = ℕ} 16384 0)
+
+same-length-4 : tie.Need-same-length-4
+same-length-4 c = search needs
+
+returns-4 : tie.Need-returns-4
+returns-4 c =
+    let t = c .before .before .before in
+    let e = t .before .before .before .before in
+    let k = e .before .before in
+    let s = given k in
+    walk-on-as _ _ (lent s) _ (accepted k) (k .actions-of .ensures) (within e) (t .take-message .ensures)
+
+pub walk-spec : {M : Type 1} → statement M
+walk-spec =
+    tie.close
+    (tie.spec
+    judge-walk-requires
+    enum-told
+    same-length
+    returns
+    enum-told-2
+    actions-of-requires
+    refused-requires
+    same-length-2
+    returns-2
+    refused-requires-2
+    same-length-3
+    returns-3
+    slice-aggregate-take-message
+    take-message-requires
+    same-length-4
+    returns-4)
