@@ -16,7 +16,7 @@ use Rattle.plans.specs.Basic.{basic-words?}
 use Rattle.plans.specs.Judging.{plan-refusal}
 use Rattle.walks.specs.Progress.{Progress, fresh, outside?}
 use Rattle.walks.specs.Pass.{take-message}
-use Rattle.walks.specs.Outcome.{refuse-if, not-walkable-refusal, WalkOutcome, accepted-outcome, unless-refused, fresh-outcome, message-outcome, walk-outcome}
+use Rattle.walks.specs.Outcome.{refuse-if, not-walkable-refusal, WalkOutcome, accepted-outcome, unless-refused, fresh-outcome, not-taken?, walk-refusal, or-keep, walk-outcome}
 use Rattle.walks.specs.Claims.{FreshClaims, WalkClaims}
 use Rattle.aberulwy_c.specs.Answers.{Returned, lent, of-walk}
 use Rattle.aberulwy_c.specs.Handing.{WalkAnswered}
@@ -62,16 +62,13 @@ fresh-range : (t : Tables) (plan : List ℕ) (p : Progress) → Answer-range (fr
 unfolding fresh-outcome
 fresh-range t plan p = unless-range (not-walkable-refusal t plan (p .marks)) p (accepted-outcome (fresh plan)) (walk-ranges t plan (p .marks)) tt
 
-message-range : (a : Option Progress) (p : Progress) → Answer-range (message-outcome a p .answer)
-message-range none p = (omega arith, omega arith)
-message-range (some q) p = tt
-
 walk-range : (t : Tables) (plan : List ℕ) (m : ℕ) (p : Progress) → Answer-range (walk-outcome t plan m p .answer)
-unfolding walk-outcome
+unfolding walk-outcome walk-refusal
 walk-range t plan m p =
-    unless-range (or-else (not-walkable-refusal t plan (p .marks)) (refuse-if (outside? (actions t) m) 71)) p (message-outcome (take-message (actions t) plan m p) p)
-    (ranges-or (not-walkable-refusal t plan (p .marks)) _ (walk-ranges t plan (p .marks)) (ranges-if (outside? (actions t) m) 71 (omega arith) (omega arith)))
-    (message-range (take-message (actions t) plan m p) p)
+    unless-range (walk-refusal t plan m p) p (accepted-outcome (or-keep (take-message (actions t) plan m p) p))
+    (ranges-or (not-walkable-refusal t plan (p .marks)) _ (walk-ranges t plan (p .marks))
+    (ranges-or (refuse-if (outside? (actions t) m) 71) _ (ranges-if (outside? (actions t) m) 71 (omega arith) (omega arith))
+    (ranges-if (not-taken? (take-message (actions t) plan m p)) 72 (omega arith) (omega arith)))) tt
 
 walked-as : (x : Judgement) → Answer-range x → {b : Bool} {h n p f : ℕ} → WalkAnswered x b h n p f → WalkedAs x n p
 walked-as Accepted r a = rw (a .number, a .place) accepted

@@ -25,7 +25,8 @@ use Rattle.trees.specs.Tree.{Rest, finish}
 use Rattle.paths.specs.Subplans.{Target, at-finish, subplan, rest-of}
 use Rattle.walks.specs.Progress.{Progress, fresh, outside?}
 use Rattle.walks.specs.Pass.{take-message}
-use Rattle.walks.specs.Outcome.{not-walkable-refusal, WalkOutcome, accepted-outcome, refused-outcome, fresh-outcome, message-outcome, walk-outcome, walk-refusal}
+use Rattle.walks.specs.Turns.{message-outcome}
+use Rattle.walks.specs.Outcome.{not-walkable-refusal, WalkOutcome, accepted-outcome, refused-outcome, fresh-outcome, walk-outcome, walk-refusal}
 use Rattle.walks.specs.Reached.{FromMark, MarkedBranch}
 use Rattle.walks.specs.Claims.{Walkable, NotWalkable, by-plan, not-basic, other-length, AfterMessages, FreshClaims, Taken, NotTaken, not-walkable, outside, no-path, WalkClaims}
 use Rattle.walks.proofs.Outcomes.{refusal-plan, refusal-not-basic, refusal-length, refusal-none, none-said, fresh-refused, fresh-begun, walk-refused, walk-outside, walk-on, outside-zero, outside-high, outside-none, outside-said, message-inside, fresh-numbers, walk-numbers}

@@ -23,8 +23,8 @@ use Rattle.plans.proofs.Options.{never}
 use Rattle.plans.proofs.Accepted.{plan-accepted-iff, few-actions, accepted-plan}
 use Rattle.walks.specs.Progress.{Progress, fresh, outside?}
 use Rattle.walks.specs.Pass.{passed, some-mark, progress-after, take-message}
-use Rattle.walks.specs.Turns.{Walking, Found}
-use Rattle.walks.specs.Outcome.{refuse-if, not-walkable-refusal, WalkOutcome, accepted-outcome, refused-outcome, unless-refused, fresh-outcome, message-outcome, walk-outcome, not-taken?, walk-refusal}
+use Rattle.walks.specs.Turns.{Walking, Found, message-outcome}
+use Rattle.walks.specs.Outcome.{refuse-if, not-walkable-refusal, WalkOutcome, accepted-outcome, refused-outcome, unless-refused, fresh-outcome, walk-outcome, not-taken?, or-keep, walk-refusal}
 
 -- whether a plan can be walked with these marks
 module _ (t : Tables) (plan marks : List ℕ) where
@@ -57,6 +57,14 @@ module _ (t : Tables) (plan marks : List ℕ) where
       go true false e = never (sym e)
       go false c e = never (sym e)
 
+-- where a message is not refused for another reason
+no-other-refusal : (o : Option Refusal) (b : Bool) (a : Option Progress) (p : Progress) → o ≡ none → b ≡ false
+    → unless-refused (or-else o (or-else (refuse-if b 71) (refuse-if (not-taken? a) 72))) p (accepted-outcome (or-keep a p)) ≡ message-outcome a p
+no-other-refusal none false none p d e = refl
+no-other-refusal none false (some q) p d e = refl
+no-other-refusal none true a p d e = absurd (false≢true (sym e))
+no-other-refusal (some r) b a p d e = never (sym d)
+
 module _ (t : Tables) (plan : List ℕ) (p : Progress) where
   -- a fresh walk
   pub fresh-refused : (r : Refusal) → not-walkable-refusal t plan (p .marks) ≡ some r → fresh-outcome t plan p ≡ refused-outcome r p
@@ -83,7 +91,7 @@ module _ (t : Tables) (plan : List ℕ) (p : Progress) where
   -- a message
   module _ (m : ℕ) where
     pub walk-refused : (r : Refusal) → not-walkable-refusal t plan (p .marks) ≡ some r → walk-outcome t plan m p ≡ refused-outcome r p
-    unfolding walk-outcome
+    unfolding walk-outcome walk-refusal
     walk-refused r e = rw e refl
 
     pub walk-refused-as : {a : Judgement} {r : Refusal} → a ≡ judged (not-walkable-refusal t plan (p .marks)) → a ≡ Refused r → record { answer = a; progress = p } ≡ walk-outcome t plan m p
@@ -91,15 +99,15 @@ module _ (t : Tables) (plan : List ℕ) (p : Progress) where
 
     module _ (e : not-walkable-refusal t plan (p .marks) ≡ none) where
       pub walk-outside : outside? (actions t) m ≡ true → walk-outcome t plan m p ≡ refused-outcome (record { number = 71; place = Nowhere }) p
-      unfolding walk-outcome
+      unfolding walk-outcome walk-refusal
       walk-outside o = rw (e, o) refl
 
       pub walk-outside-as : {a : Judgement} → outside? (actions t) m ≡ true → a ≡ judged (refuse 71 Nowhere) → record { answer = a; progress = p } ≡ walk-outcome t plan m p
       walk-outside-as o k = ap (λ a. record { answer = a; progress = p }) k ∙ sym (walk-outside o)
 
       pub walk-on : outside? (actions t) m ≡ false → walk-outcome t plan m p ≡ message-outcome (take-message (actions t) plan m p) p
-      unfolding walk-outcome
-      walk-on o = rw (e, o) refl
+      unfolding walk-outcome walk-refusal
+      walk-on o = no-other-refusal (not-walkable-refusal t plan (p .marks)) (outside? (actions t) m) (take-message (actions t) plan m p) p e o
 
       pub walk-on-as : {n : ℕ} {x : WalkOutcome} → n ≡ actions t → outside? n m ≡ false → x ≡ message-outcome (take-message n plan m p) p → x ≡ walk-outcome t plan m p
       walk-on-as q o k =
@@ -187,12 +195,5 @@ unfolding fresh-outcome
 fresh-numbers t plan p = unless-numbers (not-walkable-refusal t plan (p .marks)) p (fresh plan)
 
 pub walk-numbers : (t : Tables) (plan : List ℕ) (m : ℕ) (p : Progress) → report (walk-outcome t plan m p .answer) ≡ reported (walk-refusal t plan m p) []
-unfolding walk-outcome walk-refusal
-walk-numbers t plan m p = go (not-walkable-refusal t plan (p .marks)) (outside? (actions t) m) (take-message (actions t) plan m p)
-  where
-    go : (o : Option Refusal) (b : Bool) (a : Option Progress)
-        → report (unless-refused (or-else o (refuse-if b 71)) p (message-outcome a p) .answer) ≡ reported (or-else o (or-else (refuse-if b 71) (refuse-if (not-taken? a) 72))) []
-    go (some r) b a = refl
-    go none true a = refl
-    go none false none = refl
-    go none false (some q) = refl
+unfolding walk-outcome
+walk-numbers t plan m p = unless-numbers (walk-refusal t plan m p) p (or-keep (take-message (actions t) plan m p) p)

@@ -25,7 +25,8 @@ use Rattle.paths.specs.Paths.{Leads, Begins, Finishes}
 use Rattle.paths.specs.Subplans.{place-of, Target, at-finish, subplan, Transition, Transitions, stay, go, rest-of}
 use Rattle.walks.specs.Progress.{Progress, Marked, fresh, outside?}
 use Rattle.walks.specs.Pass.{take-message}
-use Rattle.walks.specs.Outcome.{not-walkable-refusal, WalkOutcome, accepted-outcome, refused-outcome, message-outcome, walk-outcome}
+use Rattle.walks.specs.Turns.{message-outcome}
+use Rattle.walks.specs.Outcome.{not-walkable-refusal, WalkOutcome, accepted-outcome, refused-outcome, walk-outcome}
 use Rattle.walks.specs.Claims.{walked, if-taken, messages-taken}
 use Rattle.walks.specs.Reached.{FromMark, FromMarkTo}
 use Rattle.paths.proofs.Parts.{Part, whole, Placed, part-subterm, part-at, part-trans, transition-part, subterm-part-at, same-start, plan-size}

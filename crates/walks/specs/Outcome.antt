@@ -47,24 +47,23 @@ unfoldable pub fresh-outcome : Tables → List ℕ → Progress → WalkOutcome
 unfolding not-walkable-refusal fresh
 fresh-outcome t plan p = unless-refused (not-walkable-refusal t plan (p .marks)) p (accepted-outcome (fresh plan))
 
--- "a message that no path goes on with gets 72"
-abbrev pub message-outcome : Option Progress → Progress → WalkOutcome
-message-outcome none p = refused-outcome (record { number = 72; place = Nowhere }) p
-message-outcome (some q) p = accepted-outcome q
-
--- message m brought where the progress p stands: "an action outside 1 to n gets 71"
-unfoldable pub walk-outcome : Tables → List ℕ → ℕ → Progress → WalkOutcome
-unfolding not-walkable-refusal take-message
-walk-outcome t plan m p =
-    unless-refused (or-else (not-walkable-refusal t plan (p .marks)) (refuse-if (outside? (actions t) m) 71)) p (message-outcome (take-message (actions t) plan m p) p)
-
 abbrev pub not-taken? : Option Progress → Bool
 not-taken? none = true
 not-taken? (some q) = false
 
--- the same as one refusal, for the numbers of the answer: 70 "straight after 1 to 14", 71, and 72, "in that order"
+-- message m brought where the progress p stands: "an action outside 1 to n gets 71, and a message that no path goes on with gets 72, in that order"
 unfoldable pub walk-refusal : Tables → List ℕ → ℕ → Progress → Option Refusal
 unfolding not-walkable-refusal take-message
 walk-refusal t plan m p =
     or-else (not-walkable-refusal t plan (p .marks))
     (or-else (refuse-if (outside? (actions t) m) 71) (refuse-if (not-taken? (take-message (actions t) plan m p)) 72))
+
+-- what the message leaves where it is taken
+abbrev pub or-keep : Option Progress → Progress → Progress
+or-keep none p = p
+or-keep (some q) p = q
+
+-- and everything that it answers and leaves
+unfoldable pub walk-outcome : Tables → List ℕ → ℕ → Progress → WalkOutcome
+unfolding walk-refusal take-message
+walk-outcome t plan m p = unless-refused (walk-refusal t plan m p) p (accepted-outcome (or-keep (take-message (actions t) plan m p) p))

@@ -3,12 +3,15 @@ use Prim.Native.Nat.{ℕ, _≤_}
 use mathlib.Core.Path.{_≡_}
 use mathlib.Core.Bool.{Bool, _||_}
 use mathlib.Core.List.{List}
-use mathlib.Core.Option.{none}
+use mathlib.Core.Option.{Option, none, some}
 use lib.ListN.{length}
+use Rattle.refusals.specs.declared.Place.the-variants.{Nowhere}
 use Rattle.areas.specs.Area.{most-words}
 use Rattle.plans.specs.Judging.{words-refusal}
 use Rattle.paths.specs.Operands.{Starts}
+use Rattle.walks.specs.Progress.{Progress}
 use Rattle.walks.specs.Pass.{look, passed}
+use Rattle.walks.specs.Outcome.{WalkOutcome, accepted-outcome, refused-outcome}
 
 -- an accepted plan, and one mark byte for each of its words
 pub record Walking (n : ℕ) (plan marks : List ℕ) : Type 0 where
@@ -36,3 +39,8 @@ pub record Looked (n : ℕ) (plan : List ℕ) (m i : ℕ) (left next left′ nex
   pub left-same : length left′ ≡ length left
   pub next-same : length next′ ≡ length next
   pub looked : (e : Bool) → look n plan m i (record { left = left; next = next; ending = e }) ≡ record { left = left′; next = next′; ending = r || e }
+
+-- what a message of 1 to n leaves, by whether it is taken
+abbrev pub message-outcome : Option Progress → Progress → WalkOutcome
+message-outcome none p = refused-outcome (record { number = 72; place = Nowhere }) p
+message-outcome (some q) p = accepted-outcome q
