@@ -42,10 +42,10 @@ int main(void) {
     read_plan("T(H3((H2((H1((H0(((2 # 5).(11.18) # 4)) # 7)) # 10)) # 13.1)))");
     size_t words = read_plan("T(H3((H2((H1((H0(((2 # 5).(11.8) # 4)) # 7)) # 10)) # 13.1)))");
 
-    size_t steps, size, place, orders;
+    size_t steps, size, place, orders, stuck;
     uint8_t number =
         aberulwy_unfold(tables, sizeof tables, plan, words, 5000, list, sizeof list, a, sizeof a, b, sizeof b, &steps, &size, &place);
-    aberulwy_count_orders(tables, sizeof tables, steps % 2 == 0 ? a : b, size, &orders, &place);
-    printf("end %u steps %zu size %zu orders %zu\n", number, steps, size, orders);
+    aberulwy_count_orders(tables, sizeof tables, steps % 2 == 0 ? a : b, size, &orders, &stuck, &place);
+    printf("end %u steps %zu size %zu orders %zu stuck %zu\n", number, steps, size, orders, stuck);
     return number;
 }

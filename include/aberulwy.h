@@ -23,7 +23,7 @@
 #include <stddef.h>
 #include <stdint.h>
 
-#define ABERULWY_VERSION "0.7.0"
+#define ABERULWY_VERSION "0.8.0"
 
 #ifdef __cplusplus
 extern "C" {
@@ -38,8 +38,10 @@ uint8_t aberulwy_judge_plan(const uint8_t *tables, size_t tables_len, const uint
 /* Asks whether a plan is basic. Returns 0, and then *basic is 1 where it is and 0 where it is not; or returns 1 to 8, 11 to 14. */
 uint8_t aberulwy_is_basic(const uint8_t *tables, size_t tables_len, const uint8_t *plan, size_t plan_len, size_t *basic, size_t *place);
 
-/* Counts the orders of a basic plan. Returns 0, and then *orders is their count, 0 for a plan that is not basic; or returns 1 to 8, 11 to 14. */
-uint8_t aberulwy_count_orders(const uint8_t *tables, size_t tables_len, const uint8_t *plan, size_t plan_len, size_t *orders, size_t *place);
+/* Counts the paths of a basic plan. Returns 0, and then *orders of them finish and *stuck lead into a dead stop, 0 of both for a plan that is not basic;
+ * a path that stands twice among the words counts twice (1 1 64 has 2 orders). Or returns 1 to 8, 11 to 14. */
+uint8_t aberulwy_count_orders(const uint8_t *tables, size_t tables_len, const uint8_t *plan, size_t plan_len, size_t *orders, size_t *stuck,
+                              size_t *place);
 
 /* Unfolds a plan. Returns 0 where it finished, or 34 (allowance), 35 (list) or 36 (areas) where it stopped; *steps is then the count of steps made
  * and *size that of the words of the plan reached. Or returns 1 to 8, 11 to 15, which leave list and areas as they are. The list holds three bytes

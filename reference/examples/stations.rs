@@ -75,13 +75,15 @@ fn bench_tables() -> Vec<u8> {
 }
 
 /// Two coins on the turntable, with a hub that turns without the weight or waits for it,
-/// and a balance that answers at once or must settle.
+/// and a balance that answers at once, must settle, or settles with a weight to offer or with
+/// none.
 fn bench() -> Vec<Stored> {
     let next = [TURN[1], SECOND_CAMERA[1], PRODUCT];
     let hasty = [&[WEIGHT[1], FIRST_CAMERA[1]], &next[..], &[PRODUCT, MERGE]].concat();
     let waiting = [&[WEIGHT[1], FIRST_CAMERA[1], MERGE], &next[..], &[PRODUCT]].concat();
     let quick: &[u8] = &[WEIGHT[0]];
     let late: &[u8] = &[SETTLES, WEIGHT[0], PRODUCT];
+    let light: &[u8] = &[SETTLES, WEIGHT[0], PRODUCT, SETTLES, CHOICE];
     let file = |name, hub: &[u8], balance: &[u8]| {
         let mut plan = hub.to_vec();
         let parts = [&FIRST_CAMERA[..1], &SECOND_CAMERA[..1], &TURN[..1], balance];
@@ -97,6 +99,8 @@ fn bench() -> Vec<Stored> {
         file("clean-coin-hub-waits", &waiting, quick),
         file("crusted-coin", &hasty, late),
         file("crusted-coin-hub-waits", &waiting, late),
+        file("light-coin", &hasty, light),
+        file("light-coin-hub-waits", &waiting, light),
     ]
 }
 

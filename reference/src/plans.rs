@@ -1,4 +1,5 @@
-//! Plans: their words, when they are accepted, their terms, and which are basic.
+//! Plans: their words, when they are accepted, their terms, which are basic, and how many of
+//! their paths finish or are stuck.
 
 use crate::refusals::Refusal;
 use crate::tables::{actions, judge_tables, DEAD_STOP};
@@ -215,23 +216,43 @@ fn is_live_action(term: &Term) -> bool {
     matches!(term, Term::Action(a) if *a != DEAD_STOP)
 }
 
-/// "Orders of a basic plan: δ and an action count 1, a·x counts x's, a sum adds; 0 for a
-/// plan not basic." The plan is an accepted one.
-pub fn orders(plan: &[u8]) -> usize {
+/// How many paths of a plan finish, and how many are stuck.
+#[derive(Clone, Copy, Debug, PartialEq, Eq)]
+pub struct Counts {
+    /// The paths that finish.
+    pub orders: usize,
+    /// The paths into a dead stop.
+    pub stuck: usize,
+}
+
+/// "Count finishing paths as orders, and paths into a dead stop as stuck. The plan `0` has no
+/// order and one stuck; a plan not basic has 0 of both." (Request 103.) As in document 01, "a·x
+/// counts x's, a sum adds": a path that stands twice in the words counts twice. The plan is an
+/// accepted one.
+pub fn counts(plan: &[u8]) -> Counts {
+    let both = |orders, stuck| Counts { orders, stuck };
     if !is_basic(plan) {
-        return 0;
+        return both(0, 0);
     }
-    let whole = term(plan);
-    let mut count = 0;
-    let mut waiting = vec![&whole];
-    while let Some(term) = waiting.pop() {
-        match term {
-            Term::Two(PRODUCT, _, x) => waiting.push(x),
-            Term::Two(_, x, y) => waiting.extend([&**x, &**y]),
-            _ => count += 1,
-        }
+    let mut waiting: Vec<Counts> = Vec::new();
+    for &word in plan {
+        let mut operand = || waiting.pop().expect("an accepted plan has the operands");
+        let counted = match word {
+            DEAD_STOP => both(0, 1),
+            CHOICE => {
+                let (y, x) = (operand(), operand());
+                both(x.orders + y.orders, x.stuck + y.stuck)
+            }
+            PRODUCT => {
+                // No path ends at the first factor, which is one action.
+                let (x, _) = (operand(), operand());
+                x
+            }
+            _ => both(1, 0),
+        };
+        waiting.push(counted);
     }
-    count
+    waiting.pop().expect("an accepted plan is not empty")
 }
 
 /// Whether the plan is basic, after judging tables and plan.
@@ -240,10 +261,10 @@ pub fn judged_basic(tables: &[u8], plan: &[u8]) -> Result<bool, Refusal> {
     Ok(is_basic(plan))
 }
 
-/// The plan's orders, after judging tables and plan.
-pub fn judged_orders(tables: &[u8], plan: &[u8]) -> Result<usize, Refusal> {
+/// The plan's orders and its stuck paths, after judging tables and plan.
+pub fn judged_orders(tables: &[u8], plan: &[u8]) -> Result<Counts, Refusal> {
     judge(tables, plan)?;
-    Ok(orders(plan))
+    Ok(counts(plan))
 }
 
 #[cfg(test)]
@@ -270,24 +291,105 @@ mod tests {
         assert_eq!(refused(&[1, 2]), (14, 0));
     }
 
+    /// The orders and the stuck paths of a plan.
+    fn counted(plan: &[u8]) -> (usize, usize) {
+        let Counts { orders, stuck } = counts(plan);
+        (orders, stuck)
+    }
+
     #[test]
-    fn basic_plans_and_orders() {
-        let cases: [(&[u8], usize); 10] = [
-            (&[0], 1),
-            (&[1], 1),
-            (&[1, 0, 65], 1),
-            (&[1, 0, 65, 2, 64], 2),
-            (&[1, 2, 65, 2, 1, 65, 64, 3, 64], 3),
-            (&[0, 1, 64], 0),
-            (&[1, 2, 65, 3, 65], 0),
-            (&[0, 1, 65], 0),
-            (&[1, 70], 0),
-            (&[1, 1, 0, 64, 65], 0),
+    fn basic_plans_and_their_counts() {
+        let cases: [(&[u8], (usize, usize)); 15] = [
+            (&[0], (0, 1)),
+            (&[1], (1, 0)),
+            (&[4], (1, 0)),
+            (&[1, 0, 65], (0, 1)),
+            (&[1, 2, 65], (1, 0)),
+            (&[1, 2, 0, 65, 65], (0, 1)),
+            (&[1, 0, 65, 2, 64], (1, 1)),
+            (&[2, 1, 0, 65, 64], (1, 1)),
+            (&[1, 2, 65, 2, 1, 65, 64, 3, 64], (3, 0)),
+            // A path that stands twice counts twice.
+            (&[1, 1, 64], (2, 0)),
+            (&[1, 0, 65, 1, 0, 65, 64], (0, 2)),
+            // A choice behind an action: 1·(2·δ + 3), and 1·(2·δ + 3) + 4·δ.
+            (&[1, 2, 0, 65, 3, 64, 65], (1, 1)),
+            (&[1, 2, 0, 65, 3, 64, 65, 4, 0, 65, 64], (1, 2)),
+            // Sums of both groupings: (1 + 2·δ) + 3, and 1·δ + (2 + 3·δ).
+            (&[1, 2, 0, 65, 64, 3, 64], (2, 1)),
+            (&[1, 0, 65, 2, 3, 0, 65, 64, 64], (1, 2)),
         ];
         for (plan, count) in cases {
-            assert_eq!(orders(plan), count, "{plan:?}");
-            assert_eq!(is_basic(plan), count > 0, "{plan:?}");
+            assert_eq!(counted(plan), count, "{plan:?}");
+            assert!(is_basic(plan), "{plan:?}");
         }
+    }
+
+    #[test]
+    fn plans_that_are_not_basic_count_nothing() {
+        let cases: [&[u8]; 10] = [
+            &[0, 1, 64],
+            &[1, 0, 64],
+            &[0, 0, 64],
+            &[1, 2, 65, 3, 65],
+            &[0, 1, 65],
+            &[0, 0, 65],
+            &[1, 70],
+            &[0, 80],
+            &[1, 2, 66],
+            &[1, 1, 0, 64, 65],
+        ];
+        for plan in cases {
+            assert_eq!(counted(plan), (0, 0), "{plan:?}");
+            assert!(!is_basic(plan), "{plan:?}");
+        }
+    }
+
+    #[test]
+    fn counts_after_judging() {
+        let tables = trial_tables();
+        let judged = |plan: &[u8]| judged_orders(&tables, plan);
+        let both = Counts {
+            orders: 1,
+            stuck: 1,
+        };
+        assert_eq!(judged(&[1, 0, 65, 2, 64]), Ok(both));
+        let none = Counts {
+            orders: 0,
+            stuck: 0,
+        };
+        assert_eq!(judged(&[1, 2, 66]), Ok(none));
+        assert_eq!(judged(&[1, 5, 65]), Err(Refusal::at_byte(12, 1)));
+        assert_eq!(judged_orders(&[], &[0]), Err(Refusal::nowhere(1)));
+    }
+
+    #[test]
+    fn long_plans_and_their_counts() {
+        let chain = |last: u8| {
+            let mut chain = vec![1; 8191];
+            chain.push(last);
+            chain.resize(16_383, 65);
+            chain
+        };
+        assert_eq!(counted(&chain(1)), (1, 0));
+        assert_eq!(counted(&chain(0)), (0, 1));
+        // The most orders, and the most that are stuck, with sums of either grouping.
+        let left = |summand: &[u8], others: usize| {
+            let other = [summand, &[64]].concat();
+            [summand, &other.repeat(others)].concat()
+        };
+        let right =
+            |summand: &[u8], others: usize| [summand.repeat(others + 1), vec![64; others]].concat();
+        assert_eq!(counted(&left(&[1], 8191)), (8192, 0));
+        assert_eq!(counted(&right(&[1], 8191)), (8192, 0));
+        assert_eq!(counted(&left(&[1, 0, 65], 4095)), (0, 4096));
+        assert_eq!(counted(&right(&[1, 0, 65], 4095)), (0, 4096));
+        let mixed = [2, 1, 0, 65, 64];
+        assert_eq!(counted(&left(&mixed, 2729)), (2730, 2730));
+        assert_eq!(counted(&right(&mixed, 2729)), (2730, 2730));
+        // A dead stop at the far end of a long sum is no sum-plan.
+        let spoilt = [left(&[1], 8190), vec![0, 64]].concat();
+        assert_eq!(counted(&spoilt), (0, 0));
     }
 
     #[test]
@@ -306,9 +408,7 @@ mod tests {
         assert_eq!(judge_plan(&trial_tables(), &plan), Ok(()));
         assert_eq!(words(&term(&plan)), plan);
         assert!(!is_basic(&plan));
-        let mut chain = vec![1; 8192];
-        chain.resize(16_383, 65);
-        assert_eq!(orders(&chain), 1);
+        assert_eq!(counted(&plan), (0, 0));
     }
 
     #[test]

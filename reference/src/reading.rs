@@ -1,13 +1,13 @@
-//! Plans for people: a plan in infix signs, and the orders of a basic one.
+//! Plans for people: a plan in infix signs, and the paths of a basic one.
 //!
 //! ```
 //! use reference::reading::reading;
 //!
-//! let listing = "end 0 steps 4 size 9 orders 3\n1 2 65 2 1 65 64 3 64\n11 2\n12 2\n12 5\n10 9\n";
-//! assert_eq!(reading(listing)?, "1·2 + 2·1 + 3\n1 2\n2 1\n3\n");
+//! let listing = "end 0 steps 1 size 5 orders 1 stuck 1\n1 0 65 2 64\n7 4\n";
+//! assert_eq!(reading(listing)?, "1·δ + 2\n1 δ (stuck)\n2\n");
 //! // A word may also be a sign of [`descriptions`](reference::descriptions).
 //! let text = reading("1 2 ‖ ∂0")?;
-//! assert_eq!(text, "∂0(1 ‖ 2)\nnot basic: no orders are counted\n");
+//! assert_eq!(text, "∂0(1 ‖ 2)\nnot basic: no orders, none stuck\n");
 //! # Ok::<(), reference::descriptions::Complaint>(())
 //! ```
 //!
@@ -22,11 +22,11 @@
 //!
 //! So the text of two plans is the same only where their words are.
 //!
-//! # Orders
+//! # Paths
 //!
-//! An order is what is seen from the plan's beginning to its end, by one way through its sums.
-//! They come in the order of the words, one to a line. One that ends in dead stop has
-//! `δ (stuck)` behind its actions.
+//! A path is what is seen from the plan's beginning to its end, by one way through its sums.
+//! Paths come in the order of the words, one to a line. A path that finishes is an order. A path
+//! into a dead stop is not, and has `δ (stuck)` behind its actions.
 //!
 //! # What is read
 //!
@@ -35,22 +35,22 @@
 
 use crate::descriptions::{word, Complaint};
 use crate::plans::{
-    is_basic, judge_plan, orders, term, Term, CHOICE, COMMUNICATION_MERGE, ENCAPSULATION,
+    counts, is_basic, judge_plan, term, Term, CHOICE, COMMUNICATION_MERGE, ENCAPSULATION,
     LEFT_MERGE, LONGEST_PLAN, MERGE, PRODUCT, THETA,
 };
 use crate::tables::{DEAD_STOP, MOST_ACTIONS, TABLES_LENGTH};
 use std::fmt::{self, Write};
 
-/// One order of a basic plan.
+/// One path of a basic plan.
 #[derive(Clone, Debug, PartialEq, Eq)]
-pub struct Order {
+pub struct Path {
     /// The actions that are seen, dead stop not among them.
     pub actions: Vec<u8>,
-    /// Whether dead stop comes then.
+    /// Whether dead stop comes then; else the path finishes, and is an order.
     pub stuck: bool,
 }
 
-impl fmt::Display for Order {
+impl fmt::Display for Path {
     /// The actions with blanks between them, and `δ (stuck)` behind where it is.
     fn fmt(&self, f: &mut fmt::Formatter<'_>) -> fmt::Result {
         let actions = self.actions.iter().map(u8::to_string);
@@ -60,16 +60,16 @@ impl fmt::Display for Order {
     }
 }
 
-/// The plan of a text in infix signs, and below it a line for each of its orders, or one that
-/// says that it has none.
+/// The plan of a text in infix signs, and below it a line for each of its paths, or one that
+/// says that none are counted.
 pub fn reading(text: &str) -> Result<String, Complaint> {
     let plan = read(text)?;
     let mut lines = infix(&plan) + "\n";
     if !is_basic(&plan) {
-        lines += "not basic: no orders are counted\n";
+        lines += "not basic: no orders, none stuck\n";
     }
-    for order in orders_of(&plan) {
-        writeln!(lines, "{order}").expect("a text takes lines");
+    for path in paths_of(&plan) {
+        writeln!(lines, "{path}").expect("a text takes lines");
     }
     Ok(lines)
 }
@@ -81,16 +81,18 @@ fn read(text: &str) -> Result<Vec<u8>, Complaint> {
     let complaint = |line, expected| Complaint { line, expected };
     let in_head = |expected| complaint(Some((1, head.trim().to_string())), expected);
     match head.split_whitespace().collect::<Vec<&str>>()[..] {
-        ["end", _, "steps", _, "size", size, "orders", count] => {
+        ["end", _, "steps", _, "size", size, "orders", orders, "stuck", stuck] => {
             let plan = plan(lines.next().unwrap_or_default()).map_err(|e| complaint(None, e))?;
-            let (words, counted) = (plan.len().to_string(), orders(&plan).to_string());
-            if (size, count) == (&words, &counted) {
+            let counted = counts(&plan);
+            let below = [plan.len(), counted.orders, counted.stuck].map(|count| count.to_string());
+            if [size, orders, stuck] == below {
                 return Ok(plan);
             }
-            let expected = format!("`size {words} orders {counted}`, as the plan below has them");
-            Err(in_head(expected))
+            let [size, orders, stuck] = below;
+            let numbers = format!("size {size} orders {orders} stuck {stuck}");
+            Err(in_head(format!("`{numbers}`, as the plan below has them")))
         }
-        ["end", ..] => Err(in_head("`end E steps S size Z orders O`".into())),
+        ["end", ..] => Err(in_head("`end E steps S size Z orders O stuck K`".into())),
         ["refused", ..] => Err(in_head("a plan; a refused file has none".into())),
         _ => plan(text).map_err(|e| complaint(None, e)),
     }
@@ -198,22 +200,22 @@ fn one_sign(word: u8) -> String {
     }
 }
 
-/// The orders of an accepted plan, in the order of its words; none where it is not basic. They
-/// are as many as [`orders`] counts.
+/// The paths of an accepted plan, in the order of its words; none where it is not basic. Those
+/// that finish and those that are stuck are as many as [`counts`] says.
 ///
 /// ```
-/// use reference::reading::orders_of;
+/// use reference::reading::paths_of;
 ///
-/// let orders = orders_of(&[1, 2, 65, 3, 0, 65, 64]);
-/// let lines: Vec<String> = orders.iter().map(|order| order.to_string()).collect();
+/// let paths = paths_of(&[1, 2, 65, 3, 0, 65, 64]);
+/// let lines: Vec<String> = paths.iter().map(|path| path.to_string()).collect();
 /// assert_eq!(lines, ["1 2", "3 δ (stuck)"]);
 /// ```
-pub fn orders_of(plan: &[u8]) -> Vec<Order> {
+pub fn paths_of(plan: &[u8]) -> Vec<Path> {
     if !is_basic(plan) {
         return Vec::new();
     }
     let whole = term(plan);
-    let mut orders = Vec::new();
+    let mut paths = Vec::new();
     let mut seen = Vec::new();
     // A plan, and how many actions are seen before it.
     let mut waiting = vec![(&whole, 0)];
@@ -227,14 +229,14 @@ pub fn orders_of(plan: &[u8]) -> Vec<Order> {
             Term::Two(_, x, y) => waiting.extend([(&**y, before), (&**x, before)]),
             end => {
                 seen.extend(action(end));
-                orders.push(Order {
+                paths.push(Path {
                     actions: seen.clone(),
                     stuck: action(end).is_none(),
                 });
             }
         }
     }
-    orders
+    paths
 }
 
 /// The action of a term that is one; none for dead stop.

@@ -1,6 +1,6 @@
 //! Station files and the program.
 
-use crate::plans::{judge, orders};
+use crate::plans::{counts, judge, Counts};
 use crate::refusals::Refusal;
 use crate::runs::{reached, set};
 use crate::tables::TABLES_LENGTH;
@@ -188,10 +188,13 @@ fn refused_line(refusal: Refusal) -> String {
 }
 
 /// "It prints `end E steps S size Z orders O` (E is 0, 34 or 36), a line of the words
-/// reached, then a line `law place` for each step".
+/// reached, then a line `law place` for each step"; and by request 103, "The printed first line
+/// ends `orders O stuck K`."
 fn ended_text(number: u8, reached: &[u8], records: &[u8]) -> String {
-    let (steps, size, orders) = (records.len() / RECORD, reached.len(), orders(reached));
-    let mut text = format!("end {number} steps {steps} size {size} orders {orders}\n");
+    let (steps, size) = (records.len() / RECORD, reached.len());
+    let Counts { orders, stuck } = counts(reached);
+    let mut text =
+        format!("end {number} steps {steps} size {size} orders {orders} stuck {stuck}\n");
     let words: Vec<String> = reached.iter().map(u8::to_string).collect();
     text += &words.join(" ");
     text.push('\n');

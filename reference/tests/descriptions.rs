@@ -92,7 +92,7 @@ fn nothing_else_is_judged() {
 fn an_order_is_not_closed_by_itself() {
     let listed = |lines: &str| program(&station(&format!("actions 3\n{lines}\nplan 1")).unwrap());
     assert_eq!(listed("1 < 2\n2 < 3"), "refused 8 1091\n");
-    let closed = "end 0 steps 0 size 1 orders 1\n1\n";
+    let closed = "end 0 steps 0 size 1 orders 1 stuck 0\n1\n";
     assert_eq!(listed("1 < 2\n2 < 3\n1 < 3"), closed);
 }
 

@@ -1,11 +1,12 @@
 //! The random cases come to the edges: each kind of case named here is met.
 
 use reference::checking;
-use reference::plans::{judge_plan, LONGEST_PLAN};
+use reference::plans::{judge_plan, judged_orders, Counts, LONGEST_PLAN};
 use reference::random::cases::{check_case, unfold_case, CheckCase, UnfoldCase};
 use reference::random::plans::damaged_plan;
 use reference::random::tables::damaged_tables;
 use reference::random::Random;
+use reference::random::{cases, walks};
 use reference::refusals::Place;
 use reference::tables::{below, judge_tables};
 use reference::unfolding;
@@ -146,6 +147,54 @@ fn edges_of_plans() {
     met.assert_all();
 }
 
+#[test]
+fn edges_of_counts() {
+    let (mut random, mut met) = (Random::new(46), Met::default());
+    for _ in 0..6000 {
+        let (tables, plan) = cases::tables_and_plan(&mut random);
+        note_counts(&mut met, judged_orders(&tables, &plan).ok());
+    }
+    met.assert_all();
+    let mut met = Met::default();
+    for _ in 0..6000 {
+        let (tables, plan) = walks::tables_and_plan(&mut random);
+        let counted = judged_orders(&tables, &plan).ok();
+        note_counts(&mut met, counted);
+        let Some(Counts { orders, stuck }) = counted else {
+            continue;
+        };
+        met.note("dead stop alone", plan == [0]);
+        met.note(
+            "one stuck behind actions",
+            plan.len() > 1 && (orders, stuck) == (0, 1),
+        );
+        met.note("as many stuck as orders", orders > 1 && stuck == orders);
+        met.note("one order, more stuck", orders == 1 && stuck > 2);
+        met.note("one stuck, more orders", stuck == 1 && orders > 2);
+        met.note("orders above a byte", orders > 255);
+        met.note("stuck above a byte", stuck > 255);
+        met.note("both above a byte", orders > 255 && stuck > 255);
+        met.note("above a byte, none stuck", orders > 255 && stuck == 0);
+        met.note("above a byte, no order", orders == 0 && stuck > 255);
+        let last = plan.len() + 1 >= LONGEST_PLAN;
+        met.note("a longest plan", last && orders + stuck > 1);
+    }
+    met.assert_all();
+}
+
+fn note_counts(met: &mut Met, counted: Option<Counts>) {
+    let (orders, stuck) = counted.map_or((0, 0), |counts| (counts.orders, counts.stuck));
+    met.note("refused", counted.is_none());
+    met.note("not basic", counted.is_some() && orders + stuck == 0);
+    met.note("no order, one stuck", (orders, stuck) == (0, 1));
+    met.note("no order, several stuck", orders == 0 && stuck > 1);
+    met.note("one order, none stuck", (orders, stuck) == (1, 0));
+    met.note("several orders, none stuck", orders > 1 && stuck == 0);
+    met.note("orders and stuck", orders > 0 && stuck > 0);
+    met.note("more stuck than orders", orders > 0 && stuck > orders);
+    met.note("more orders than stuck", stuck > 0 && orders > stuck);
+}
+
 fn name_of(byte: u8) -> &'static str {
     match byte {
         31 => "12 byte 31",
@@ -160,7 +209,7 @@ fn name_of(byte: u8) -> &'static str {
 
 #[test]
 fn edges_of_unfolding() {
-    let (mut random, mut met) = (Random::new(43), Met::default());
+    let (mut random, mut met) = (Random::new(47), Met::default());
     for _ in 0..6000 {
         let case = unfold_case(&mut random);
         match case.run().answer {

@@ -2,7 +2,7 @@
 
 use reference::checking::{self, check_rewriting};
 use reference::laws::{apply, next_step};
-use reference::plans::{is_basic, judge, judge_plan, orders, starts, subplan, term, words};
+use reference::plans::{counts, is_basic, judge, judge_plan, starts, subplan, term, words};
 use reference::random::cases::*;
 use reference::random::plans::{
     any_plan, basic_plan, every_plan, plan, plan_with_left_side, small_plan,
@@ -35,9 +35,10 @@ fn random_plans_are_accepted_and_read_back() {
         assert_eq!(words(&term(&plan)), plan);
         let place = random.below(plan.len());
         assert_eq!(subplan(&plan, place), &plan[starts(&plan)[place]..=place]);
-        let leaves = random.between(1, 9);
-        let basic = basic_plan(&mut random, n, leaves);
-        assert_eq!(orders(&basic), leaves, "{basic:?}");
+        let paths = random.between(1, 9);
+        let basic = basic_plan(&mut random, n, paths);
+        let counted = counts(&basic);
+        assert_eq!(counted.orders + counted.stuck, paths, "{basic:?}");
         assert_eq!(next_step(&tables, &basic), None);
     }
 }
@@ -79,7 +80,8 @@ fn finished_exactly_if_basic() {
         if let Some(reached) = unfolded.reached() {
             let finished = unfolded.answer.number() == 0;
             assert_eq!(is_basic(reached), finished);
-            assert_eq!(orders(reached) > 0, finished);
+            let counted = counts(reached);
+            assert_eq!(counted.orders + counted.stuck > 0, finished);
         }
     }
 }
@@ -268,7 +270,8 @@ fn the_program_prints_what_was_reached() {
             continue;
         }
         assert!(["0", "34", "36"].contains(&first[1]));
-        assert_eq!(first[1] == "0", first[7] != "0");
+        assert_eq!((first[6], first[8], first.len()), ("orders", "stuck", 10));
+        assert_eq!(first[1] == "0", (first[7], first[9]) != ("0", "0"));
         let steps: usize = first[3].parse().unwrap();
         assert_eq!(printed.lines().count(), 2 + steps);
         let size: usize = first[5].parse().unwrap();

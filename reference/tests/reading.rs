@@ -1,11 +1,11 @@
-//! Plans in infix signs and their orders, by the module and by the program `orders`.
+//! Plans in infix signs and their paths, by the module and by the program `orders`.
 
 mod programs;
 
-use reference::plans::orders;
+use reference::plans::{counts, Counts};
 use reference::random::plans::{any_plan, basic_plan, small_plan};
 use reference::random::Random;
-use reference::reading::{infix, orders_of, reading, Order};
+use reference::reading::{infix, paths_of, reading, Path};
 use std::process::Output;
 
 const CRUSTED_COIN: &str = include_str!("../../examples/bench/crusted-coin.txt");
@@ -103,21 +103,21 @@ fn words(infix: &str) -> Option<Vec<u8>> {
     reader.rest.next().is_none().then_some(read)
 }
 
-/// The orders of a basic plan, with 0 at the end of a stuck one, gathered word by word.
+/// The paths of a basic plan, with 0 at the end of a stuck one, gathered word by word.
 fn gathered(plan: &[u8]) -> Vec<Vec<u8>> {
     let mut waiting: Vec<Vec<Vec<u8>>> = Vec::new();
     for &word in plan {
         let last = waiting.len().saturating_sub(2);
-        let orders = match (word, &waiting[last..]) {
+        let paths = match (word, &waiting[last..]) {
             (64, [x, y]) => [&x[..], y].concat(),
-            (65, [a, x]) => x.iter().map(|order| [&a[0][..], order].concat()).collect(),
+            (65, [a, x]) => x.iter().map(|path| [&a[0][..], path].concat()).collect(),
             _ => {
                 waiting.push(vec![vec![word]]);
                 continue;
             }
         };
         waiting.truncate(last);
-        waiting.push(orders);
+        waiting.push(paths);
     }
     waiting.remove(0)
 }
@@ -218,18 +218,22 @@ fn dead_stop() {
     assert_eq!(reading("3 0 65").unwrap(), "3·δ\n3 δ (stuck)\n");
     let read = "1·(2·δ + 3)\n1 2 δ (stuck)\n1 3\n";
     assert_eq!(reading("1 2 0 65 3 64 65").unwrap(), read);
+    let listing = "end 0 steps 0 size 7 orders 1 stuck 1\n1 2 0 65 3 64 65\n";
+    assert_eq!(reading(listing).unwrap(), read);
+    let listing = include_str!("../../examples/trays/tray-6-dead-stop.txt");
+    assert_eq!(reading(listing).unwrap(), "δ\nδ (stuck)\n");
 }
 
 #[test]
 fn plans_that_are_not_basic() {
-    let told = |infix: &str| format!("{infix}\nnot basic: no orders are counted\n");
+    let told = |infix: &str| format!("{infix}\nnot basic: no orders, none stuck\n");
     assert_eq!(reading("1 2 66 80").unwrap(), told("∂0(1 ‖ 2)"));
     assert_eq!(reading("1 2 65 3 65").unwrap(), told("(1·2)·3"));
     assert_eq!(reading("1 0 64").unwrap(), told("1 + δ"));
     let stopped = include_str!("../../examples/stopped/36-too-long.txt");
     let read = reading(stopped).unwrap();
     assert!(read.starts_with("(1·2 + 2·1 + 3) ‖ (3 + 3 + 3"));
-    assert!(read.ends_with("\nnot basic: no orders are counted\n"));
+    assert!(read.ends_with("\nnot basic: no orders, none stuck\n"));
 }
 
 #[test]
@@ -267,18 +271,23 @@ fn brackets_only_where_needed() {
 }
 
 #[test]
-fn as_many_orders_as_are_counted() {
+fn as_many_paths_as_are_counted() {
+    let listed = |paths: &[Path]| {
+        let stuck = paths.iter().filter(|path| path.stuck).count();
+        let orders = paths.len() - stuck;
+        Counts { orders, stuck }
+    };
     let mut random = Random::new(3);
     for _ in 0..2000 {
-        let leaves = random.between(1, 30);
-        let plan = basic_plan(&mut random, 31, leaves);
-        let found = orders_of(&plan);
-        assert_eq!(found.len(), orders(&plan));
-        let end = |order: Order| [order.actions, vec![0; order.stuck as usize]].concat();
+        let paths = random.between(1, 30);
+        let plan = basic_plan(&mut random, 31, paths);
+        let found = paths_of(&plan);
+        assert_eq!(listed(&found), counts(&plan));
+        let end = |path: Path| [path.actions, vec![0; path.stuck as usize]].concat();
         let found: Vec<Vec<u8>> = found.into_iter().map(end).collect();
         assert_eq!(found, gathered(&plan));
         let plan = any_plan(&mut random, 31);
-        assert_eq!(orders_of(&plan).len(), orders(&plan));
+        assert_eq!(listed(&paths_of(&plan)), counts(&plan));
     }
 }
 
@@ -292,7 +301,7 @@ fn deep_plans() {
     let mut deep = vec![1];
     deep.resize(16_384, 70);
     let brackets = |open: &str, count| open.repeat(count) + "1" + &")".repeat(count);
-    let told = "\nnot basic: no orders are counted\n";
+    let told = "\nnot basic: no orders, none stuck\n";
     assert_eq!(text(&deep), brackets("θ(", 16_383) + told);
     let sum = "1".to_string() + &" + 1".repeat(8191) + "\n" + &"1\n".repeat(8192);
     assert_eq!(text(&repeated(64)), sum);
@@ -305,41 +314,63 @@ fn deep_plans() {
 }
 
 #[test]
-fn many_long_orders() {
+fn many_long_paths() {
     let ones = vec![1; 4000];
     let sum = [vec![2], [2, 64].repeat(3999)].concat();
     let plan = [ones, sum, vec![65; 4000]].concat();
-    let orders = orders_of(&plan);
-    assert_eq!(orders.len(), 4000);
-    assert!(orders.iter().all(|order| order.actions.len() == 4001));
+    let paths = paths_of(&plan);
+    assert_eq!(paths.len(), 4000);
+    let right = |path: &Path| path.actions.len() == 4001 && !path.stuck;
+    assert!(paths.iter().all(right));
 }
 
 #[test]
 fn texts_that_tell_no_plan() {
     let refused = include_str!("../../examples/refused/52-sum.txt");
     let none = "expected a plan; a refused file has none";
-    let head = "`end E steps S size Z orders O`";
+    let head = "`end E steps S size Z orders O stuck K`";
     let below = |numbers: &str| format!("expected `{numbers}`, as the plan below has them");
     let long = "1 ".repeat(16_385);
     let cases = [
         (refused, format!("line 1: refused 52 0\n{none}")),
         ("end 0", format!("line 1: end 0\nexpected {head}")),
+        // A first line as it was before stuck paths were counted apart.
+        (
+            "end 0 steps 0 size 1 orders 1\n1",
+            format!("line 1: end 0 steps 0 size 1 orders 1\nexpected {head}"),
+        ),
+        (
+            "end 0 steps 0 size 1 stuck 1 orders 0\n0",
+            format!("line 1: end 0 steps 0 size 1 stuck 1 orders 0\nexpected {head}"),
+        ),
         ("", "expected a plan of 1 to 16384 words, not of 0".into()),
         (
             &long,
             "expected a plan of 1 to 16384 words, not of 16385".into(),
         ),
         (
-            "end 0 steps 0 size 1 orders 1",
+            "end 0 steps 0 size 1 orders 1 stuck 0",
             "expected a plan of 1 to 16384 words, not of 0".into(),
         ),
         (
-            "end 0 steps 4 size 9 orders 3\n1 2 65 2 1 65 64",
-            "line 1: end 0 steps 4 size 9 orders 3\n".to_string() + &below("size 7 orders 2"),
+            "end 0 steps 4 size 9 orders 3 stuck 0\n1 2 65 2 1 65 64",
+            "line 1: end 0 steps 4 size 9 orders 3 stuck 0\n".to_string()
+                + &below("size 7 orders 2 stuck 0"),
         ),
         (
-            "end 0 steps 0 size 3 orders 1\n1 2 66",
-            "line 1: end 0 steps 0 size 3 orders 1\n".to_string() + &below("size 3 orders 0"),
+            "end 0 steps 0 size 3 orders 1 stuck 0\n1 2 66",
+            "line 1: end 0 steps 0 size 3 orders 1 stuck 0\n".to_string()
+                + &below("size 3 orders 0 stuck 0"),
+        ),
+        (
+            "end 0 steps 0 size 1 orders 1 stuck 0\n0",
+            "line 1: end 0 steps 0 size 1 orders 1 stuck 0\n".to_string()
+                + &below("size 1 orders 0 stuck 1"),
+        ),
+        (
+            "end 0 steps 0 size 5 orders 1 stuck 0\n1 0 65 2 64",
+            "line 1: end 0 steps 0 size 5 orders 1 stuck 0\n".to_string()
+                + &below("size 5 orders 1 stuck 1"),
         ),
         (
             "1 2 &",

@@ -1,6 +1,6 @@
 //! The twelve trial trays.
 
-use reference::plans::{is_basic, orders};
+use reference::plans::{counts, is_basic, Counts};
 use reference::random::cases::{own_rewriting_case, UnfoldCase, Unfolded};
 use reference::stations::{program, write_station};
 use reference::tables::trial_tables;
@@ -78,12 +78,16 @@ fn accepts_own_rewriting(case: &UnfoldCase) {
 #[test]
 fn case_1_merge() {
     finishes(CASE_1[0], &STEPS_1, CASE_1[4]);
-    assert_eq!(orders(CASE_1[4]), 3);
+    let counted = Counts {
+        orders: 3,
+        stuck: 0,
+    };
+    assert_eq!(counts(CASE_1[4]), counted);
 }
 
 #[test]
 fn case_1_printed() {
-    let printed = "end 0 steps 4 size 9 orders 3\n\
+    let printed = "end 0 steps 4 size 9 orders 3 stuck 0\n\
                    1 2 65 2 1 65 64 3 64\n\
                    11 2\n12 2\n12 5\n10 9\n";
     assert_eq!(program(&write_station(&trial_tables(), CASE_1[0])), printed);

@@ -1,7 +1,7 @@
 -- What an acceptance answered means, and what the answers on accepted plans say.
 use Prim.Native.Nat.{ℕ, _≤_}
 use native.Mathlib.Omega.{arith}
-use mathlib.Core.Path.{_≡_, refl, sym, _∙_, ap}
+use mathlib.Core.Path.{_≡_, refl, sym, _∙_, ap, subst}
 use mathlib.Core.Bool.{Bool, true, false}
 use mathlib.Core.List.{List, [], _∷_}
 use mathlib.Core.Logic.{_↔_}
@@ -13,12 +13,17 @@ use Rattle.refusals.specs.declared.Judgement.the-variants.{Accepted}
 use Rattle.refusals.specs.Refusal.{judged, report, reported}
 use Rattle.refusals.proofs.Judging.{accepted-none, report-judged}
 use Rattle.tables.specs.Tables.{Tables, actions}
+use Rattle.plans.specs.declared.Counts.{Counts}
 use Rattle.plans.specs.Judging.{plan-refusal}
 use Rattle.plans.specs.Basic.{basic-words?}
+use Rattle.plans.specs.Orders.{counts-of}
 use Rattle.plans.specs.Accepted.{BasicPlan}
 use Rattle.plans.proofs.Accepted.{accepted-plan, basic-plan}
+use Rattle.paths.specs.Counts.{CountClaims}
+use Rattle.paths.proofs.Counts.{counts-claimed}
 use Rattle.aberulwy.specs.declared.BasicAnswer.the-variants.{Yes}
-use Rattle.aberulwy.specs.Judging.{basic-of, basic-answer, basic-report, bit, orders-given, orders-report}
+use Rattle.aberulwy.specs.declared.OrdersAnswer.the-variants.{Counted}
+use Rattle.aberulwy.specs.Judging.{basic-of, basic-answer, basic-report, bit, orders-given, orders-answer, OrdersClaims}
 use Rattle.areas.specs.Area.{most-words}
 
 -- a call that judges accepts exactly what is refused nothing
@@ -51,6 +56,23 @@ basic-numbers none true = refl
 basic-numbers none false = refl
 basic-numbers (some r) b = refl
 
-pub orders-numbers : (o : Option Refusal) (k : ℕ) → orders-report (orders-given o k) ≡ reported o (k ∷ [])
-orders-numbers none k = refl
-orders-numbers (some r) k = refl
+-- where nothing is refused the paths are counted, and only there
+counted-none : (o : Option Refusal) (c d : Counts) → orders-given o c ≡ Counted d → (o ≡ none) × (c ≡ d)
+counted-none none c d e = (refl, cc)
+counted-none (some r) c d e = let z : _≡_ {A = ℕ} 0 1 = cc in absurd (omega arith)
+
+module _ (t : Tables) (ws : List ℕ) where
+  counted : (c : Counts) → orders-answer t ws ≡ Counted c → (plan-refusal t ws ≡ none) × (counts-of (actions t) ws ≡ c)
+  unfolding orders-answer
+  counted c e = counted-none (plan-refusal t ws) (counts-of (actions t) ws) c e
+
+  pub orders-claimed : OrdersClaims t ws (orders-answer t ws)
+  unfolding orders-answer
+  orders-claimed =
+      record {
+        counted-exactly = (
+          λ r. accepted-plan t ws .0 (counted (r .0) (r .1) .0),
+          λ p. (counts-of (actions t) ws, ap (λ (o : Option Refusal). orders-given o (counts-of (actions t) ws)) (accepted-plan t ws .1 p)),
+        );
+        counts = λ c e. let h = counted c e in subst (CountClaims t ws) (h .1) (counts-claimed t ws (h .0));
+      }

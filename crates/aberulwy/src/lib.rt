@@ -8,6 +8,7 @@
 // stand in crates/NAME/specs, and those of this crate are `Rattle.aberulwy.specs`; `declared` holds the enums and structs of the code.
 // `_≡_ {A = R} x y` is `x ≡ y` between records of type R.
 use checking::Checked;
+use plans::Counts;
 use refusals::Judgement;
 use refusals::Refusal;
 use stations::StationRead;
@@ -33,7 +34,8 @@ ghost use Rattle.unfolding.specs.Unfolding.{unfold-outcome, UnfoldOutcome};
 ghost use Rattle.checking.specs.Checking.{check-outcome, CheckOutcome};
 ghost use Rattle.demands.specs.Claims.{own-rewriting, unfold-given, check-given, UnfoldClaims, CheckClaims, StepClaims};
 ghost use Rattle.aberulwy.specs.declared.BasicAnswer.the-variants.{Yes};
-ghost use Rattle.aberulwy.specs.Judging.{basic-answer, basic-report, basic-reported, orders-answer, orders-report, orders-reported};
+ghost use Rattle.aberulwy.specs.Judging.{basic-answer, basic-report, basic-reported};
+ghost use Rattle.aberulwy.specs.Judging.{orders-answer, orders-report, orders-reported, OrdersClaims};
 ghost use Rattle.aberulwy.specs.Rewriting.{unfold-report, unfold-reported, check-report, check-reported, own-report, own-reported};
 ghost use Rattle.aberulwy.specs.Rewriting.{both-outcome, BothOutcome, OwnAccepted};
 
@@ -44,9 +46,9 @@ pub enum BasicAnswer {
     Refused(Refusal),
 }
 
-// How many orders a plan allows, or why they were not counted.
+// How many paths of a plan are orders, which finish, and how many are stuck in a dead stop; or why they were not counted.
 pub enum OrdersAnswer {
-    Count(usize),
+    Counted(Counts),
     Refused(Refusal),
 }
 
@@ -90,10 +92,12 @@ pub fn is_basic(tables: &[u8], plan: &[u8]) -> BasicAnswer
     }
 }
 
-// How many orders a basic plan allows, 0 for a plan that is not basic; refusals 1 to 8, 11 to 14 first.
+// Counts the paths of a basic plan by its words: orders, which finish, and stuck ones, which lead into a dead stop; 0 of both for a plan that is not
+// basic. Refusals 1 to 8, 11 to 14 first.
 pub fn count_orders(tables: &[u8], plan: &[u8]) -> OrdersAnswer
     ensures whole { λ r. ⌜ r ≡ orders-answer (now (tables .entry)) (now (plan .entry)) ⌝ }
     ensures numbers { λ r. ⌜ orders-report r ≡ orders-reported (now (tables .entry)) (now (plan .entry)) ⌝ }
+    ensures claims { λ r. ⌜ OrdersClaims (now (tables .entry)) (now (plan .entry)) r ⌝ }
 {
     match plans::judge_plan(tables, plan) {
         Judgement::Refused(refusal) => {
@@ -102,7 +106,7 @@ pub fn count_orders(tables: &[u8], plan: &[u8]) -> OrdersAnswer
         Judgement::Accepted => {}
     }
     let n = tables::actions_of(tables);
-    OrdersAnswer::Count(plans::count_orders(n, plan))
+    OrdersAnswer::Counted(plans::count_orders(n, plan))
 }
 
 // Unfolds a plan with an allowance of steps: the records go to the list, the plan reached and the one before it to the areas. Refusals 1 to 8,

@@ -19,6 +19,8 @@ use Rattle.plans.specs.Judging.{plan-refusal}
 use Rattle.plans.specs.Basic.{basic-words?}
 use Rattle.plans.specs.Accepted.{AcceptedPlan, BasicPlan}
 use Rattle.plans.proofs.Accepted.{accepted-plan, basic-plan}
+use Rattle.paths.specs.Counts.{CountClaims}
+use Rattle.paths.proofs.Counts.{counts-claimed}
 use Rattle.unfolding.specs.declared.Unfolded.{Unfolded}
 use Rattle.unfolding.specs.declared.Unfolded.the-variants.{Finished, Stopped, Refused as Not-unfolded}
 use Rattle.rewritings.specs.Runs.{Run, run-of}
@@ -32,13 +34,13 @@ use Rattle.rewritings.specs.Records.{moves-of}
 use Rattle.demands.specs.Claims.{unfold-given, check-given, Stops, allowance-spent, list-full, next-too-long, own-rewriting, UnfoldClaims, CheckClaims, StepClaims}
 use Rattle.aberulwy.specs.declared.OwnCheck.{OwnCheck}
 use Rattle.aberulwy.specs.declared.OwnCheck.the-variants.{Checked as Checked-as, NotChecked}
-use Rattle.aberulwy.specs.Judging.{bit, basic-reported}
+use Rattle.aberulwy.specs.Judging.{bit, basic-reported, orders-reported}
 use Rattle.aberulwy.specs.Rewriting.{unfold-report, check-report, own-report, check-own, both-outcome, BothOutcome, OwnAccepted}
 use Rattle.aberulwy_c.specs.Answers.{Returned, returned}
 use Rattle.aberulwy_c.specs.Handing.{Answered, MaybeAnswered}
-use Rattle.aberulwy_c.specs.Seen.{UnfoldedAs, CheckedAs, OwnAs, made, not-made, UnfoldSeen, CheckSeen, StepSeen, BothNumbers, OwnSeen}
+use Rattle.aberulwy_c.specs.Seen.{UnfoldedAs, CheckedAs, OwnAs, made, not-made, OrdersSeen, UnfoldSeen, CheckSeen, StepSeen, BothNumbers, OwnSeen}
 use Rattle.aberulwy_c.specs.Seen as seen-as
-use Rattle.aberulwy_c.proofs.Answers.{returned-0, returned-1}
+use Rattle.aberulwy_c.proofs.Answers.{returned-0, returned-1, returned-2}
 use Rattle.aberulwy_c.proofs.Numbers.{low?, low-range, low-tables, low-plan, low-unfold, low-check, turned, turned-range, ends?, replay-ends}
 
 untrue : {A : Type 0} → false ≡ true → A
@@ -74,6 +76,17 @@ basic-seen t ws {x} a = (returned-1 [] a, go (plan-refusal t ws) refl (basic-wor
     go none q true i e = (λ h. basic-plan t ws .0 (q, i), λ h. e)
     go none q false i e = (λ h. absurd (omega (arith, h, e)), λ h. untrue (sym i ∙ basic-plan t ws .1 h .1))
     go (some r) q b i e = (λ h. absurd (omega (arith, h, e)), λ h. refusing (sym q ∙ basic-plan t ws .1 h .0))
+
+-- the orders and the stuck paths of an accepted plan are set
+pub orders-seen : (t : Tables) (ws : List ℕ) {n p x y : ℕ} → Answered (orders-reported t ws) n p x y
+    → _≡_ {A = Returned} (record { number = n; place = p; values = x ∷ y ∷ []; areas = [] }) (returned 2 (orders-reported t ws) []) × OrdersSeen t ws n x y
+orders-seen t ws {n} {p} {x} {y} a = (returned-2 [] a, record { counted-exactly = exactly; counts = λ e. go (accepted-plan t ws .1 (exactly .0 e)) })
+  where
+    exactly : (n ≡ 0) ↔ AcceptedPlan t ws
+    exactly = zero-accepts (plan-refusal t ws) _ (AcceptedPlan t ws) (low-plan t ws) (accepted-plan t ws) a
+
+    go : plan-refusal t ws ≡ none → CountClaims t ws (record { orders = x; stuck = y })
+    go e = rw (a .first, a .second, e) (counts-claimed t ws e)
 
 -- Unfoldings
 

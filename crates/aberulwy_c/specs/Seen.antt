@@ -1,8 +1,10 @@
--- What is claimed of the calls for C and Rust: the claims of the calls below, of the answer that the numbers seen tell. (Demands 2, 3; requests 101, 102.)
+-- What is claimed of the calls for C and Rust: the claims of the calls below, of the answer that the numbers seen tell. (Demands 2, 3; requests
+-- 101 to 103.)
 use Prim.Native.Nat.{ℕ, _≤_}
 use mathlib.Core.Path.{_≡_}
 use mathlib.Core.Bool.{Bool}
 use mathlib.Core.List.{List}
+use mathlib.Core.Logic.{_↔_}
 use Rattle.refusals.specs.declared.Refusal.{Refusal}
 use Rattle.refusals.specs.declared.Judgement.{Judgement}
 use Rattle.refusals.specs.declared.Judgement.the-variants.{Accepted as Walk-accepted, Refused as Walk-refused}
@@ -16,11 +18,19 @@ use Rattle.texts.specs.declared.TextRead.the-variants.{Read, Refused as Not-rea
 use Rattle.texts.specs.Claims.{TextClaims}
 use Rattle.walks.specs.Claims.{FreshClaims, WalkClaims}
 use Rattle.tables.specs.Tables.{Tables}
+use Rattle.plans.specs.Accepted.{AcceptedPlan}
+use Rattle.paths.specs.Counts.{CountClaims}
 use Rattle.demands.specs.Claims.{UnfoldGiven, CheckGiven, UnfoldClaims, CheckClaims, StepClaims}
 use Rattle.aberulwy.specs.declared.OwnCheck.{OwnCheck}
 use Rattle.aberulwy.specs.declared.OwnCheck.the-variants.{Checked as Checked-as, NotChecked}
 use Rattle.aberulwy.specs.Rewriting.{OwnAccepted}
 use Rattle.aberulwy_c.specs.Answers.{finish-left, lent}
+
+-- Of a plan's paths counted, by the number answered and the orders and stuck set: the number is 0 exactly where tables and plan are accepted, and then what
+-- is claimed of counts holds of these.
+pub record OrdersSeen (tables : Tables) (plan : List ℕ) (number orders stuck : ℕ) : Type 0 where
+  pub counted-exactly : (number ≡ 0) ↔ AcceptedPlan tables plan
+  pub counts : number ≡ 0 → CountClaims tables plan (record { orders = orders; stuck = stuck })
 
 -- An unfolding's answer by the number answered and the place, steps and size set: 0 is finished, 34 to 36 are the endings, 1 to 18 are refusals.
 pub data UnfoldedAs : Unfolded → ℕ → ℕ → ℕ → ℕ → Type 0 where

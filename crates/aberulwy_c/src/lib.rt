@@ -32,7 +32,7 @@ ghost use Rattle.aberulwy_c.specs.Answers.{Returned, returned, HandedOve
 ghost use Rattle.aberulwy_c.specs.Answers.{unfold-returned, check-returned, both-returned, station-returned, text-returned};
 ghost use Rattle.aberulwy_c.specs.Answers.{fresh-returned, walk-returned};
 ghost use Rattle.aberulwy_c.specs.Handing.{Answered, MaybeAnswered, WalkAnswered};
-ghost use Rattle.aberulwy_c.specs.Seen.{UnfoldSeen, CheckSeen, StepSeen, OwnSeen, TextSeen, FreshSeen, WalkSeen};
+ghost use Rattle.aberulwy_c.specs.Seen.{OrdersSeen, UnfoldSeen, CheckSeen, StepSeen, OwnSeen, TextSeen, FreshSeen, WalkSeen};
 
 // Answers a refusal's number and sets its place.
 fn refuse(refusal: Refusal, place: &mut usize) -> u8
@@ -212,23 +212,28 @@ pub extern "C" fn aberulwy_is_basic(
     }
 }
 
-// Counts the orders of a basic plan: 0, with the count in `orders`, which is 0 for a plan that is not basic; or the number of the refusal and its
-// place.
+// Counts the paths of a basic plan: 0, with those that finish in `orders` and those into a dead stop in `stuck`, 0 of both for a plan that is not basic;
+// or the number of the refusal and its place.
 #[no_mangle]
 pub extern "C" fn aberulwy_count_orders(
     tables: &[u8],
     plan: &[u8],
     orders: &mut usize,
+    stuck: &mut usize,
     place: &mut usize,
 ) -> u8
-    ensures whole { λ r. ⌜ _≡_ {A = Returned} (record { number = r; place = now (place .exit); values = now (orders .exit) ∷ []; areas = [] })
-        (returned 1 (orders-reported (now (tables .entry)) (now (plan .entry))) []) ⌝ }
+    ensures whole { λ r. ⌜ _≡_ {A = Returned}
+        (record { number = r; place = now (place .exit); values = now (orders .exit) ∷ now (stuck .exit) ∷ []; areas = [] })
+        (returned 2 (orders-reported (now (tables .entry)) (now (plan .entry))) []) ⌝ }
+    ensures claims { λ r. ⌜ OrdersSeen (now (tables .entry)) (now (plan .entry)) r (now (orders .exit)) (now (stuck .exit)) ⌝ }
 {
     *orders = 0;
+    *stuck = 0;
     *place = 0;
     match aberulwy::count_orders(tables, plan) {
-        OrdersAnswer::Count(k) => {
-            *orders = k;
+        OrdersAnswer::Counted(counts) => {
+            *orders = counts.orders;
+            *stuck = counts.stuck;
             0
         }
         OrdersAnswer::Refused(refusal) => refuse(refusal, place),

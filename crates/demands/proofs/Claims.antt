@@ -80,7 +80,7 @@ module _ (t : Tables) (plan : List ℕ) (m l c : ℕ) (p : AcceptedPlan t plan) 
   reached-ok : words-refusal (actions t) (R .plan) ≡ none
   reached-ok = reached-all .1 (omega (arith, F .fits held))
 
-  reached-accepted : AcceptedPlan t (R .plan)
+  pub reached-accepted : AcceptedPlan t (R .plan)
   reached-accepted = accepted-plan t (R .plan) .0 (plan-accepted-iff t (R .plan) .1 (accepted-iff-lawful t .1 (p .lawful), reached-ok))
 
   -- the own rewriting is whole, and its replay in areas that hold as much accepts
@@ -93,7 +93,7 @@ module _ (t : Tables) (plan : List ℕ) (m l c : ℕ) (p : AcceptedPlan t plan) 
   no-law : (x : AcceptedPlan t (R .plan)) → ((i k : ℕ) → i < length (R .plan) → first-choice ≤ k → k ≤ highest-law → step t k i (R .plan) ≡ none) ↔ Basic (x .term)
   no-law x = no-step-iff-basic t (p .lawful .well-formed .few-actions) (R .plan) (x .term) (accepted-reads-as t (R .plan) x)
 
-  finished-basic : (R .number ≡ 0) ↔ BasicPlan t (R .plan)
+  pub finished-basic : (R .number ≡ 0) ↔ BasicPlan t (R .plan)
   finished-basic =
       let e = ends-finished (run-ends t plan m l c) in (
         λ q. record { plan = reached-accepted; basic = no-law reached-accepted .0 (none-fits t (R .plan) (e .0 q)) },

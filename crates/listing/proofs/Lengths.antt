@@ -5,6 +5,7 @@ use mathlib.Core.List.{List, [], _∷_, _++_}
 use lib.ListN.{length, getD, length-append}
 use Rattle.refusals.specs.declared.Refusal.{Refusal}
 use Rattle.refusals.specs.Refusal.{printed}
+use Rattle.plans.specs.declared.Counts.{Counts}
 use Rattle.rewritings.specs.Records.{moves-of}
 use Rattle.listing.specs.Text.{decimal, labelled, line-end, space, ascii}
 use Rattle.listing.specs.Listing.{first-line, further-words, words-line, step-line, step-lines, refused-line}
@@ -20,13 +21,14 @@ any-label l n = omega (arith, labelled-length l n, decimal-count n)
 short-label : (l : List ℕ) (k n : ℕ) → length (decimal n) ≤ k → length (labelled l n) ≤ length l + k
 short-label l k n h = omega (arith, labelled-length l n)
 
-pub first-short : (e s z o : ℕ) → length (first-line e s z o) ≤ 106
+pub first-short : (e s z : ℕ) (c : Counts) → length (first-line e s z c) ≤ 133
 unfolding first-line
-first-short e s z o =
-    joined (labelled (ascii "end ") e) _ 24 82 (any-label (ascii "end ") e)
-    (joined (labelled (ascii " steps ") s) _ 27 55 (any-label (ascii " steps ") s)
-    (joined (labelled (ascii " size ") z) _ 26 29 (any-label (ascii " size ") z)
-    (joined (labelled (ascii " orders ") o) line-end 28 1 (any-label (ascii " orders ") o) (omega arith))))
+first-short e s z c =
+    joined (labelled (ascii "end ") e) _ 24 109 (any-label (ascii "end ") e)
+    (joined (labelled (ascii " steps ") s) _ 27 82 (any-label (ascii " steps ") s)
+    (joined (labelled (ascii " size ") z) _ 26 56 (any-label (ascii " size ") z)
+    (joined (labelled (ascii " orders ") (c .orders)) _ 28 28 (any-label (ascii " orders ") (c .orders))
+    (joined (labelled (ascii " stuck ") (c .stuck)) line-end 27 1 (any-label (ascii " stuck ") (c .stuck)) (omega arith)))))
 
 pub refused-short : (r : Refusal) → length (refused-line r) ≤ 50
 unfolding refused-line

@@ -1,4 +1,4 @@
--- What the program prints for a station file. (01, "Orders, station files, program".)
+-- What the program prints for a station file. (01, "Orders, station files, program"; request 103.)
 use Prim.Native.Nat.{ℕ}
 use mathlib.Core.List.{List, [], _∷_, _++_}
 use mathlib.Core.Option.{Option, none, some}
@@ -6,17 +6,19 @@ use lib.ListN.{length}
 use Rattle.refusals.specs.declared.Refusal.{Refusal}
 use Rattle.refusals.specs.Refusal.{printed}
 use Rattle.tables.specs.Tables.{Tables, actions}
-use Rattle.plans.specs.Basic.{orders-of}
+use Rattle.plans.specs.declared.Counts.{Counts}
+use Rattle.plans.specs.Orders.{counts-of}
 use Rattle.stations.specs.File.{file-refusal, tables-held, plan-held}
 use Rattle.rewritings.specs.Records.{Move, bytes-of, moves-of}
 use Rattle.rewritings.specs.Runs.{Run, run-of}
 use Rattle.unfolding.specs.Unfolding.{unfold-refusal}
 use Rattle.listing.specs.Text.{labelled, line-end, space, ascii}
 
--- "It prints `end E steps S size Z orders O`"
-unfoldable pub first-line : ℕ → ℕ → ℕ → ℕ → List ℕ
-first-line e s z o =
-    labelled (ascii "end ") e ++ (labelled (ascii " steps ") s ++ (labelled (ascii " size ") z ++ (labelled (ascii " orders ") o ++ line-end)))
+-- "It prints `end E steps S size Z orders O`", and "The printed first line ends `orders O stuck K`" (request 103)
+unfoldable pub first-line : ℕ → ℕ → ℕ → Counts → List ℕ
+first-line e s z c =
+    labelled (ascii "end ") e
+    ++ (labelled (ascii " steps ") s ++ (labelled (ascii " size ") z ++ (labelled (ascii " orders ") (c .orders) ++ (labelled (ascii " stuck ") (c .stuck) ++ line-end))))
 
 -- "a line of the words reached", with one space between two words
 unfoldable pub further-words : List ℕ → List ℕ
@@ -37,7 +39,7 @@ step-lines (m ∷ ms) = step-line (m .law) (m .place) ++ step-lines ms
 
 -- under n actions, of an unfolding that ended with number e after s steps, with the plan reached and the records
 unfoldable pub ending : ℕ → ℕ → ℕ → List ℕ → List ℕ → List ℕ
-ending n e s plan records = first-line e s (length plan) (orders-of n plan) ++ (words-line plan ++ step-lines (moves-of records))
+ending n e s plan records = first-line e s (length plan) (counts-of n plan) ++ (words-line plan ++ step-lines (moves-of records))
 
 -- "or only `refused N P`, a triple printed as 1,024a + 32b + c"
 unfoldable pub refused-line : Refusal → List ℕ

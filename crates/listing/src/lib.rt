@@ -52,8 +52,8 @@ fn put_ending<'a>(
         × (r ≤ most) ⌝ }
 {
     let plan = aberulwy::reached(a, b, steps, size);
-    let orders = plans::count_orders(tables::actions_of(tables), plan);
-    let mut next = lines::put_first(number as usize, steps, plan.len(), orders, &mut *out, 0);
+    let counts = plans::count_orders(tables::actions_of(tables), plan);
+    let mut next = lines::put_first(number as usize, steps, plan.len(), counts, &mut *out, 0);
     next = lines::put_words(plan, &mut *out, next);
     let used = 3 * steps;
     lines::put_steps(&list[..used], out, next)
@@ -101,7 +101,8 @@ fn put_station(file: &[u8], out: &mut [u8]) -> usize
 }
 
 // Lists a station file: everything that the program prints for it, with zeros behind, or `Short` where the area is too short for it, which then
-// keeps its bytes. No listing is longer than 93,000 bytes, and the number behind `end` is 0, 34 or 36.
+// keeps its bytes. No listing is longer than 93,000 bytes, and the number behind `end` is 0, 34 or 36;
+// under 34 and 36 orders and stuck are both 0.
 pub fn list_station(file: &[u8], out: &mut [u8]) -> Listed
     ensures whole { λ r. ⌜ _≡_ {A = ListOutcome} (record { answer = r; out = now (out .exit) }) (list-outcome (now (file .entry)) (now (out .entry))) ⌝ }
     ensures bounded { λ r. ⌜ length (listing (now (file .entry))) ≤ most ⌝ }

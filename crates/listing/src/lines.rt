@@ -1,5 +1,6 @@
 // The lines that the program prints.
 use crate::text;
+use plans::Counts;
 use refusals::Refusal;
 use rewritings::Record;
 ghost use Prim.Native.Nat.{_+_, _*_, _≤_};
@@ -8,22 +9,23 @@ ghost use Rattle.rewritings.specs.Records.{moves-of};
 ghost use Rattle.listing.specs.Listing.{first-line, words-line, step-line, step-lines, refused-line};
 ghost use Rattle.listing.specs.Writing.{Wrote};
 
-// The first line: how the unfolding ended, the steps made, the size of the plan reached, its orders.
+// The first line: how the unfolding ended, the steps made, the size of the plan reached, its orders and its stuck paths.
 pub fn put_first(
     number: usize,
     steps: usize,
     size: usize,
-    orders: usize,
+    counts: Counts,
     out: &mut [u8],
     at: usize,
 ) -> usize
-    requires { ⌜ at + 106 ≤ length (now out) ⌝ }
-    ensures { λ r. ⌜ Wrote (now (out .entry)) at (first-line number steps size orders) (now (out .exit)) r × (r ≤ at + 106) ⌝ }
+    requires { ⌜ at + 133 ≤ length (now out) ⌝ }
+    ensures { λ r. ⌜ Wrote (now (out .entry)) at (first-line number steps size counts) (now (out .exit)) r × (r ≤ at + 133) ⌝ }
 {
     let mut next = text::put_labelled(b"end ", number, &mut *out, at);
     next = text::put_labelled(b" steps ", steps, &mut *out, next);
     next = text::put_labelled(b" size ", size, &mut *out, next);
-    next = text::put_labelled(b" orders ", orders, &mut *out, next);
+    next = text::put_labelled(b" orders ", counts.orders, &mut *out, next);
+    next = text::put_labelled(b" stuck ", counts.stuck, &mut *out, next);
     text::put_line_end(out, next)
 }
 

@@ -3,3 +3,5 @@ pub mod Subplans
 pub mod Standing
 pub mod Parts
 pub mod Starting
+pub mod Ends
+pub mod Counts

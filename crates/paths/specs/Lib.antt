@@ -1,3 +1,5 @@
 pub mod Paths
 pub mod Subplans
 pub mod Operands
+pub mod Ends
+pub mod Counts

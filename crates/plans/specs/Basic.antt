@@ -1,6 +1,6 @@
--- Basic plans and their orders. (01, "Unfolding" and "Orders, station files, program"; the customer's word BASIC.)
-use Prim.Native.Nat.{ℕ, _+_, _<_}
-use mathlib.Core.Bool.{Bool, false, cond, not, _&&_, _||_}
+-- Basic plans. (01, "Unfolding"; the customer's word BASIC.)
+use Prim.Native.Nat.{ℕ, _<_}
+use mathlib.Core.Bool.{Bool, false, not, _&&_, _||_}
 use mathlib.Core.List.{List}
 use mathlib.Core.Option.{Option, none, some}
 use lib.Dec.{eqb}
@@ -51,23 +51,3 @@ basic-term? (some u) = basic? u
 unfoldable pub basic-words? : ℕ → List ℕ → Bool
 unfolding basic? term-of
 basic-words? n ws = basic-term? (term-of n ws)
-
--- "Orders of a basic plan: δ and an action count 1, a·x counts x's, a sum adds"
-unfoldable pub orders : Term → ℕ
-orders (act a) = 1
-orders (un o u) = 0
-orders (bin Choice u v) = orders u + orders v
-orders (bin Sequence u v) = orders v
-orders (bin Merge u v) = 0
-orders (bin LeftMerge u v) = 0
-orders (bin CommunicationMerge u v) = 0
-orders (bin Unless u v) = 0
-
--- "0 for a plan not basic"
-abbrev pub term-orders : Option Term → ℕ
-term-orders none = 0
-term-orders (some u) = cond (basic? u) (orders u) 0
-
-unfoldable pub orders-of : ℕ → List ℕ → ℕ
-unfolding basic? orders term-of
-orders-of n ws = term-orders (term-of n ws)

@@ -3,7 +3,9 @@ pub mod Term
 pub mod Place
 pub mod Judging
 pub mod Basic
+pub mod Orders
 pub mod Accepted
 pub mod Kinds
+pub mod Occurrences
 pub mod Start
 pub mod Stack

@@ -1,11 +1,13 @@
-// Plans: how their words are read and judged, which plans are basic, and how many orders a basic plan allows.
+// Plans: how their words are read and judged, which plans are basic, and how many paths of a basic plan finish or get stuck.
 ghost use mathlib.Core.Path.{_≡_};
 ghost use Prim.Native.Nat.{_≤_, _<_};
 ghost use lib.ListN.{length};
 ghost use Rattle.refusals.specs.Refusal.{judged};
 ghost use Rattle.plans.specs.Word.{operands-of, takes-two?, word-of};
 ghost use Rattle.plans.specs.Judging.{plan-refusal, words-refusal};
-ghost use Rattle.plans.specs.Basic.{basic-words?, orders-of};
+ghost use Rattle.plans.specs.Basic.{basic-words?};
+ghost use Rattle.plans.specs.Orders.{counts-of};
+ghost use Rattle.plans.specs.Occurrences.{occurrences};
 ghost use Rattle.plans.specs.Start.{start-next, Operands};
 ghost use Rattle.areas.specs.Area.{most-words};
 use areas::MOST_WORDS;
@@ -17,6 +19,9 @@ use tables::judge_tables;
 mod scan;
 mod table;
 mod turns;
+
+// The word of dead stop, δ.
+const DELTA: u8 = 0;
 
 // The word of choice, +.
 const CHOICE: u8 = 64;
@@ -49,6 +54,12 @@ pub enum Word {
 pub enum Turn {
     Depth(usize),
     Stop(u8),
+}
+
+// How many paths of a basic plan are orders, which finish, and how many are stuck, which lead into a dead stop.
+pub struct Counts {
+    pub orders: usize,
+    pub stuck: usize,
 }
 
 // How many operands a byte takes; 3 for a byte that is no word under any count of actions.
@@ -175,24 +186,40 @@ pub fn basic_words(n: u8, plan: &[u8]) -> bool
     scan::DEAD_STOP <= kinds[0]
 }
 
-// The orders that a plan allows: one more than its signs of choice where it is basic, else 0.
-pub fn count_orders(n: u8, plan: &[u8]) -> usize
-    requires { ⌜ (n ≤ 31) × (length (now plan) ≤ most-words) ⌝ }
-    ensures whole { λ r. ⌜ r ≡ orders-of n (now (plan .entry)) ⌝ }
+// How often a word stands in a plan.
+fn count_word(plan: &[u8], word: u8) -> usize
+    ensures { λ r. ⌜ r ≡ occurrences word (now (plan .entry)) ⌝ }
 {
-    if !basic_words(n, plan) {
-        return 0;
-    }
-    let mut orders: usize = 1;
+    let mut count: usize = 0;
     let mut i: usize = 0;
     while i < plan.len() {
         let byte = plan[i];
         i += 1;
-        if byte == CHOICE {
-            orders += 1;
+        if byte == word {
+            count += 1;
         }
     }
-    orders
+    count
+}
+
+// How many paths of a plan are orders, and how many are stuck, 0 of both where it is not basic. A basic plan has one path more than signs of choice, and
+// as many lead into a dead stop as it has words 0.
+pub fn count_orders(n: u8, plan: &[u8]) -> Counts
+    requires { ⌜ (n ≤ 31) × (length (now plan) ≤ most-words) ⌝ }
+    ensures whole { λ r. ⌜ r ≡ counts-of n (now (plan .entry)) ⌝ }
+{
+    if !basic_words(n, plan) {
+        return Counts {
+            orders: 0,
+            stuck: 0,
+        };
+    }
+    let paths = 1 + count_word(plan, CHOICE);
+    let stuck = count_word(plan, DELTA);
+    Counts {
+        orders: paths - stuck,
+        stuck,
+    }
 }
 
 // Where the subplan starts whose last word is the next one. (A byte that is no word cannot come; it would start at itself.)

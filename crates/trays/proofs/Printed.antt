@@ -4,7 +4,7 @@ use native.Mathlib.Omega.{arith}
 use borrow.Author.Tests.{le-leb, le-ltb}
 use mathlib.Core.Path.{_≡_, refl}
 use mathlib.Core.List.{List, [], _∷_, _++_}
-use lib.ListN.{length, take, drop, set, replicate}
+use lib.ListN.{length, take, drop, replicate}
 use mathlib.Core.Option.{none}
 use Rattle.tables.specs.Tables.{Tables, actions, communication, below, blocked}
 use Rattle.tables.specs.Search.{first-from}
@@ -13,7 +13,8 @@ use Rattle.plans.specs.Word.{binary-word, unary-word, sign-of, word-of, operand
 use Rattle.plans.specs.Term.{words, push, read, term-of}
 use Rattle.plans.specs.Place.{subterm, replace}
 use Rattle.plans.specs.Judging.{turn-of, refusal-from, words-refusal, plan-refusal}
-use Rattle.plans.specs.Basic.{orders-of, orders, basic?, sum-plan?}
+use Rattle.plans.specs.Basic.{basic?, sum-plan?}
+use Rattle.plans.specs.Orders.{counts-of, counts}
 use Rattle.stations.specs.Block.{word, number-of, kind-of, count-of, content, used, filling, words-sum, sum-right, all-zero, count-right, use-right, block-refusal}
 use Rattle.stations.specs.File.{blocks, length-right, held, form-refusal, held-refusal, file-refusal, tables-held, plan-held}
 use Rattle.stations.specs.File as file-of
@@ -71,8 +72,8 @@ unfolding trial communicate put-below block plan plan-refusal table-refusal cont
 accepted = refl
 
 -- the lines of the run
-printed : run-listing trial (run-of trial plan 5000 15000 8192) ≡ ascii "end 0 steps 4 size 9 orders 3\n1 2 65 2 1 65 64 3 64\n11 2\n12 2\n12 5\n10 9\n"
-unfolding trial communicate put-below block plan actions communication below blocked word-of sign-of operands-of binary-word unary-word run-of run next-step lowest-law step law-at laws rewrite fit bind holds build same-bytes subterm replace term-of read push words record-of bytes-of first-record cut-from moves-of ending first-line words-line further-words step-line step-lines orders-of orders basic? sum-plan? labelled decimal digits-within
+printed : run-listing trial (run-of trial plan 5000 15000 8192) ≡ ascii "end 0 steps 4 size 9 orders 3 stuck 0\n1 2 65 2 1 65 64 3 64\n11 2\n12 2\n12 5\n10 9\n"
+unfolding trial communicate put-below block plan actions communication below blocked word-of sign-of operands-of binary-word unary-word run-of run next-step lowest-law step law-at laws rewrite fit bind holds build same-bytes subterm replace term-of read push words record-of bytes-of first-record cut-from moves-of ending first-line words-line further-words step-line step-lines counts-of counts basic? sum-plan? labelled decimal digits-within
 printed = refl
 
 -- what is printed for a file, from what it holds
@@ -82,6 +83,6 @@ unfolding listing file-refusal held-refusal plan-listing unfold-refusal
 held-listing f t p text a b d e h r = rw (a, b, d, le-leb (length p) 8192 h, e, le-ltb 8192 (length p) h) r
 
 -- "Case 1 prints:"
-case-1 : listing file ≡ ascii "end 0 steps 4 size 9 orders 3\n1 2 65 2 1 65 64 3 64\n11 2\n12 2\n12 5\n10 9\n"
+case-1 : listing file ≡ ascii "end 0 steps 4 size 9 orders 3 stuck 0\n1 2 65 2 1 65 64 3 64\n11 2\n12 2\n12 5\n10 9\n"
 unfolding plan
 case-1 = held-listing file trial plan _ form holds-tables holds-plan accepted (omega arith) printed

@@ -7,6 +7,7 @@ use crate::plans::{
     operands, CHOICE, COMMUNICATION_MERGE, ENCAPSULATION, LEFT_MERGE, LONGEST_PLAN, MERGE, PRODUCT,
     THETA, UNLESS,
 };
+use crate::tables::DEAD_STOP;
 
 /// Signs from which a plan is made; a sign standing twice comes twice as often.
 const TASTES: [&[u8]; 7] = [
@@ -120,44 +121,63 @@ pub fn action(random: &mut Random, n: u8) -> u8 {
     }
 }
 
-/// A basic plan over n actions with so many orders.
-pub fn basic_plan(random: &mut Random, n: u8, leaves: usize) -> Vec<u8> {
-    if leaves > 1 {
-        let left = random.between(1, leaves - 1);
-        let mut sum = basic_sum(random, n, left);
-        sum.extend(basic_sum(random, n, leaves - left));
-        sum.push(CHOICE);
-        return sum;
-    }
-    match random.below(6) {
-        0 => vec![0],
-        _ => basic_sum(random, n, 1),
-    }
+/// A basic plan over n actions with so many paths: orders alone, stuck ones alone, or both.
+pub fn basic_plan(random: &mut Random, n: u8, paths: usize) -> Vec<u8> {
+    let stuck_in_six = random.pick(&STUCK_IN_SIX);
+    basic_part(random, n, paths, stuck_in_six, true)
 }
 
-/// A sum-plan over n actions with so many orders.
-fn basic_sum(random: &mut Random, n: u8, leaves: usize) -> Vec<u8> {
-    let first = random.between(1, n as usize) as u8;
-    if leaves > 1 && random.once_in(2) {
-        return basic_plan(random, n, leaves);
+/// How many paths in six are stuck: in some plans none, in some all that can be.
+const STUCK_IN_SIX: [usize; 5] = [0, 1, 1, 3, 6];
+
+/// A part of a basic plan: a sum-plan, unless it may be dead stop.
+fn basic_part(
+    random: &mut Random,
+    n: u8,
+    paths: usize,
+    stuck_in_six: usize,
+    may_stop: bool,
+) -> Vec<u8> {
+    if paths == 1 {
+        let stuck = random.below(6) < stuck_in_six;
+        return one_path(random, n, stuck, may_stop);
     }
-    if leaves > 1 || random.once_in(2) {
-        let mut product = vec![first];
-        product.extend(basic_plan(random, n, leaves));
-        product.push(PRODUCT);
-        return product;
+    if random.once_in(3) {
+        let first = random.between(1, n as usize) as u8;
+        let rest = basic_part(random, n, paths, stuck_in_six, true);
+        return [vec![first], rest, vec![PRODUCT]].concat();
     }
-    vec![first]
+    let left = random.between(1, paths - 1);
+    let x = basic_part(random, n, left, stuck_in_six, false);
+    let y = basic_part(random, n, paths - left, stuck_in_six, false);
+    [x, y, vec![CHOICE]].concat()
+}
+
+/// A part with one path: a few actions in a row, and dead stop behind them if it is stuck.
+fn one_path(random: &mut Random, n: u8, stuck: bool, may_stop: bool) -> Vec<u8> {
+    let least = usize::from(!(stuck && may_stop));
+    let mut path = Vec::new();
+    while path.len() < least || random.once_in(2) {
+        path.push(random.between(1, n as usize) as u8);
+    }
+    if stuck {
+        path.push(DEAD_STOP);
+    }
+    path.resize(2 * path.len() - 1, PRODUCT);
+    path
 }
 
 /// A basic plan with exactly so many words that are actions, dead stop counted. Beside dead stop it
-/// has at most three different actions, so that many of its summands begin with the same one.
+/// has at most three different actions, so that many of its summands begin with the same one. Its
+/// paths are orders alone, stuck ones alone, or both.
 pub fn repeating_basic_plan(random: &mut Random, n: u8, actions: usize) -> Vec<u8> {
     let any = |random: &mut Random| random.between(1, n as usize) as u8;
     let few = [any(random), any(random), any(random)];
     let few = &few[..random.between(1, 3)];
+    let stuck_in_six = random.pick(&STUCK_IN_SIX);
     let sums_in_four = random.pick(&[0, 1, 2, 2, 3, 4]);
-    // The fewest actions of a sum; from 4 on, none of its summands is an action alone.
+    // The fewest actions of a sum; from 4 on, none of its summands is an action alone, so that
+    // all paths can be stuck.
     let least_sum = random.pick(&[2, 4, 7]);
     let shape = random.pick(&[Shape::Any, Shape::Left, Shape::Right, Shape::Even]);
     let mut backwards = Vec::with_capacity(2 * actions);
@@ -165,7 +185,7 @@ pub fn repeating_basic_plan(random: &mut Random, n: u8, actions: usize) -> Vec<u
     let mut waiting = vec![(actions, true)];
     while let Some((actions, may_stop)) = waiting.pop() {
         if actions == 1 {
-            let stops = may_stop && random.once_in(6);
+            let stops = may_stop && random.below(6) < stuck_in_six;
             backwards.push(if stops { 0 } else { random.pick(few) });
         } else if actions >= least_sum && random.below(4) < sums_in_four {
             backwards.push(CHOICE);

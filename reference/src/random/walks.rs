@@ -183,7 +183,7 @@ pub fn messages_case(random: &mut Random) -> MessagesCase {
 }
 
 /// Mostly accepted tables and a basic plan; sometimes one of them is damaged, or both.
-fn tables_and_plan(random: &mut Random) -> (Vec<u8>, Vec<u8>) {
+pub fn tables_and_plan(random: &mut Random) -> (Vec<u8>, Vec<u8>) {
     let tables = match random.below(10) {
         0 => damaged_tables(random),
         1 | 2 => trial_tables(),

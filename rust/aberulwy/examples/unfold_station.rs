@@ -1,5 +1,6 @@
 //! Unfolds the station file that its argument names, and prints how that ended, the plan
-//! reached and the count of orders. A refusal goes to standard error, with status 1.
+//! reached, and the counts of its orders and of its stuck paths. A refusal goes to standard
+//! error, with status 1.
 //!
 //! `unfold_station FILE`
 
@@ -43,6 +44,7 @@ fn run() -> Result<(), Box<dyn Error>> {
     );
     let words: Vec<String> = reached.iter().map(u8::to_string).collect();
     println!("plan reached: {}", words.join(" "));
-    println!("orders: {}", count_orders(&tables, reached)?);
+    let counts = count_orders(&tables, reached)?;
+    println!("orders: {}, stuck: {}", counts.orders, counts.stuck);
     Ok(())
 }

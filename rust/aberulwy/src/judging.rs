@@ -63,23 +63,52 @@ pub fn is_basic(tables: &[u8], plan: &[u8]) -> Result<bool, Refusal> {
     counted(raw::is_basic(tables, plan)).map(|basic| basic == 1)
 }
 
-/// How many orders a basic plan allows: dead stop and an action count 1, a sequence counts
-/// what follows, a sum adds. A plan that is not basic has 0.
+/// How many paths of a plan finish, and how many are stuck.
+#[derive(Clone, Copy, Debug, PartialEq, Eq, Hash)]
+pub struct Counts {
+    /// The orders: the paths that finish.
+    pub orders: usize,
+    /// The paths into a dead stop.
+    pub stuck: usize,
+}
+
+/// Counts the paths of a basic plan: those that finish are its orders, and those into a dead stop
+/// are stuck. Dead stop is one stuck path and no order, an action is one order, a sequence counts
+/// what follows its action, and a sum adds. So a path that stands twice in the words counts twice.
+/// A plan that is not basic has 0 of both.
 ///
 /// # Errors
 ///
 /// Refusals 1 to 8, and 11 to 14.
 ///
 /// ```
-/// use aberulwy::count_orders;
+/// use aberulwy::{count_orders, Counts};
 ///
 /// let tables = aberulwy::examples::trial_tables();
-/// assert_eq!(count_orders(&tables, &[1, 2, 65, 2, 1, 65, 64, 3, 64]), Ok(3));
-/// assert_eq!(count_orders(&tables, &[1, 2, 66]), Ok(0));
+/// // 1·2 + 2·1 + 3, which the merge of 1 and 2 unfolds to.
+/// let counts = count_orders(&tables, &[1, 2, 65, 2, 1, 65, 64, 3, 64]);
+/// assert_eq!(counts, Ok(Counts { orders: 3, stuck: 0 }));
+/// // 1·δ + 2: after 1 nothing goes on.
+/// let counts = count_orders(&tables, &[1, 0, 65, 2, 64]);
+/// assert_eq!(counts, Ok(Counts { orders: 1, stuck: 1 }));
+/// // Dead stop alone.
+/// assert_eq!(count_orders(&tables, &[0]), Ok(Counts { orders: 0, stuck: 1 }));
+/// // 1 + 1: by the words.
+/// assert_eq!(count_orders(&tables, &[1, 1, 64]), Ok(Counts { orders: 2, stuck: 0 }));
+/// // A merge is not basic.
+/// assert_eq!(count_orders(&tables, &[1, 2, 66]), Ok(Counts { orders: 0, stuck: 0 }));
+/// // The empty plan is refused.
 /// assert_eq!(count_orders(&tables, &[]).unwrap_err().number(), 11);
 /// ```
-pub fn count_orders(tables: &[u8], plan: &[u8]) -> Result<usize, Refusal> {
-    counted(raw::count_orders(tables, plan))
+pub fn count_orders(tables: &[u8], plan: &[u8]) -> Result<Counts, Refusal> {
+    let answer = raw::count_orders(tables, plan);
+    match answer.number {
+        0 => Ok(Counts {
+            orders: answer.orders,
+            stuck: answer.stuck,
+        }),
+        number => Err(Refusal::new(number, answer.place)),
+    }
 }
 
 /// Nothing more than that it was done, or the refusal.

@@ -71,7 +71,7 @@ mod unfolding;
 mod walks;
 
 pub use checking::{check_rewriting, Checked, Verdict};
-pub use judging::{count_orders, is_basic, judge_plan, judge_tables};
+pub use judging::{count_orders, is_basic, judge_plan, judge_tables, Counts};
 pub use refusals::{Place, Refusal};
 pub use stations::{list_station, read_station};
 pub use texts::read_text;

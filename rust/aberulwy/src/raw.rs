@@ -33,6 +33,19 @@ pub struct Counted {
     pub place: usize,
 }
 
+/// The answer of a call that counts the paths of a plan.
+#[derive(Clone, Copy, Debug, PartialEq, Eq)]
+pub struct CountedPaths {
+    /// 0, or the number of the refusal.
+    pub number: u8,
+    /// The paths that finish; 0 where refused.
+    pub orders: usize,
+    /// The paths into a dead stop; 0 where refused.
+    pub stuck: usize,
+    /// The printed place of the refusal; 0 where none is named.
+    pub place: usize,
+}
+
 /// The answer of a call that makes steps.
 #[derive(Clone, Copy, Debug, PartialEq, Eq)]
 pub struct Ended {
@@ -101,6 +114,7 @@ mod archive {
             plan: *const u8,
             plan_len: usize,
             orders: *mut usize,
+            stuck: *mut usize,
             place: *mut usize,
         ) -> u8;
 
@@ -305,17 +319,23 @@ pub fn is_basic(tables: &[u8], plan: &[u8]) -> Counted {
     }
 }
 
-/// The orders of a plan, after judging as [`judge_plan`] does.
+/// The orders of a plan and its stuck paths, after judging as [`judge_plan`] does.
 ///
 /// ```
-/// use aberulwy::raw::{count_orders, Counted};
+/// use aberulwy::raw::{count_orders, CountedPaths};
 ///
 /// let tables = aberulwy::examples::trial_tables();
-/// assert_eq!(count_orders(&tables, &[1, 2, 64]), Counted { number: 0, value: 2, place: 0 });
-/// assert_eq!(count_orders(&tables, &[1, 2]), Counted { number: 14, value: 0, place: 0 });
+/// // 1·δ + 2: one path is stuck, the other finishes.
+/// let both = CountedPaths { number: 0, orders: 1, stuck: 1, place: 0 };
+/// assert_eq!(count_orders(&tables, &[1, 0, 65, 2, 64]), both);
+/// // A merge is not basic.
+/// let neither = CountedPaths { number: 0, orders: 0, stuck: 0, place: 0 };
+/// assert_eq!(count_orders(&tables, &[1, 2, 66]), neither);
+/// let refused = CountedPaths { number: 12, orders: 0, stuck: 0, place: 1 };
+/// assert_eq!(count_orders(&tables, &[1, 9, 64]), refused);
 /// ```
-pub fn count_orders(tables: &[u8], plan: &[u8]) -> Counted {
-    let (mut value, mut place) = (NOT_SET, NOT_SET);
+pub fn count_orders(tables: &[u8], plan: &[u8]) -> CountedPaths {
+    let (mut orders, mut stuck, mut place) = (NOT_SET, NOT_SET, NOT_SET);
     // SAFETY: see the head of this file.
     let number = unsafe {
         archive::aberulwy_count_orders(
@@ -323,13 +343,15 @@ pub fn count_orders(tables: &[u8], plan: &[u8]) -> Counted {
             tables.len(),
             plan.as_ptr(),
             plan.len(),
-            &mut value,
+            &mut orders,
+            &mut stuck,
             &mut place,
         )
     };
-    Counted {
+    CountedPaths {
         number,
-        value,
+        orders,
+        stuck,
         place,
     }
 }

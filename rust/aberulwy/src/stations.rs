@@ -51,7 +51,7 @@ pub fn read_station(
 /// let text = list_station(file, &mut out).expect("room for every listing");
 /// assert_eq!(
 ///     std::str::from_utf8(text),
-///     Ok("end 0 steps 4 size 9 orders 3\n\
+///     Ok("end 0 steps 4 size 9 orders 3 stuck 0\n\
 ///         1 2 65 2 1 65 64 3 64\n\
 ///         11 2\n12 2\n12 5\n10 9\n")
 /// );

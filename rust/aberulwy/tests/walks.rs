@@ -449,7 +449,11 @@ fn crusted_coin() -> (Vec<u8>, Vec<u8>) {
 #[test]
 fn the_six_orders_of_the_crusted_coin() {
     let (tables, plan) = crusted_coin();
-    assert_eq!(count_orders(&tables, &plan), Ok(6));
+    let counts = Counts {
+        orders: 6,
+        stuck: 0,
+    };
+    assert_eq!(count_orders(&tables, &plan), Ok(counts));
     let orders = paths(&plan);
     // Weight, photographs, turn and settling, each once: 3, 6, 9, 12 and 13.
     assert_eq!(orders.len(), 6);

@@ -2,10 +2,12 @@
 //! the reference, which is compared, and measured where it is not too slow.
 
 use crate::plain;
+use reference::plans::{self, Counts};
 use reference::{checking, texts, unfolding, walks, Refusal};
 
 /// How a call ended: number, steps, words of the plan reached or read. Of a walk, the last is 1
-/// where a finish is reached, and else 0.
+/// where a finish is reached, and else 0; of a question whether a plan is basic, 1 where it is. Of
+/// a count, the last two are orders and stuck paths.
 pub type Ended = (u8, usize, usize);
 /// Unfolds: tables, plan, allowance, list, areas A and B.
 pub type Unfold = fn(&[u8], &[u8], u32, &mut [u8], &mut [u8], &mut [u8]) -> Ended;
@@ -17,6 +19,8 @@ pub type Read = fn(&[u8], &[u8], &mut [u8]) -> Ended;
 pub type Begin = fn(&[u8], &[u8], &mut [u8]) -> Ended;
 /// Brings a message to a walk without a finish: tables, plan, marks, message. It makes no steps.
 pub type Bring = fn(&[u8], &[u8], &mut [u8], u8) -> Ended;
+/// Asks something of a plan: tables, plan. It makes no steps.
+pub type Ask = fn(&[u8], &[u8]) -> Ended;
 
 /// An implementation to measure.
 #[derive(Clone, Copy)]
@@ -31,6 +35,10 @@ pub struct Contender {
     pub fresh_walk: Begin,
     /// Its message to a walk.
     pub walk: Bring,
+    /// Whether a plan is basic.
+    pub is_basic: Ask,
+    /// Its count of orders and stuck paths.
+    pub count_orders: Ask,
 }
 
 /// The unverified version in plain Rust.
@@ -50,6 +58,8 @@ pub const PLAIN: Contender = Contender {
     walk: |tables, plan, marks, message| {
         walked(|finished| plain::walk(tables, plan, marks, message, finished))
     },
+    is_basic: |tables, plan| read(plain::is_basic(tables, plan).map(usize::from)),
+    count_orders: |tables, plan| counted(plain::count_orders(tables, plan)),
 };
 
 /// The second implementation, written for comparison.
@@ -69,6 +79,8 @@ pub const REFERENCE: Contender = Contender {
     walk: |tables, plan, marks, message| {
         walked(|finished| walks::walk(tables, plan, marks, message, finished))
     },
+    is_basic: |tables, plan| read(plans::judged_basic(tables, plan).map(usize::from)),
+    count_orders: |tables, plan| counted(plans::judged_orders(tables, plan)),
 };
 
 fn unfolded(answer: unfolding::Answer) -> Ended {
@@ -97,6 +109,13 @@ fn checked(answer: checking::Answer) -> Ended {
 fn read(answer: Result<usize, Refusal>) -> Ended {
     match answer {
         Ok(size) => (0, 0, size),
+        Err(refusal) => (refusal.number, 0, 0),
+    }
+}
+
+fn counted(answer: Result<Counts, Refusal>) -> Ended {
+    match answer {
+        Ok(Counts { orders, stuck }) => (0, orders, stuck),
         Err(refusal) => (refusal.number, 0, 0),
     }
 }
@@ -135,5 +154,13 @@ pub const PROVED: Option<Contender> = Some(Contender {
         let mut finished = 0;
         let answer = aberulwy::raw::walk(tables, plan, marks, message, &mut finished);
         (answer.number, 0, finished)
+    },
+    is_basic: |tables, plan| {
+        let answer = aberulwy::raw::is_basic(tables, plan);
+        (answer.number, 0, answer.value)
+    },
+    count_orders: |tables, plan| {
+        let paths = aberulwy::raw::count_orders(tables, plan);
+        (paths.number, paths.orders, paths.stuck)
     },
 });

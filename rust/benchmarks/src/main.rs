@@ -1,13 +1,13 @@
 //! Prints, as Markdown tables, what a step takes: in the proved library, in an unverified plain
-//! Rust version of the same algorithm, and in Maude; and what a character of a text and a message
-//! to a walk take in the first two. Ends at the first call on which the proved library and the
-//! plain version differ.
+//! Rust version of the same algorithm, and in Maude; and what a character of a text, a message to
+//! a walk and a count of paths take in the first two. Ends at the first call on which the proved
+//! library and the plain version differ.
 
 use benchmarks::contenders::{PLAIN, PROVED, REFERENCE};
 use benchmarks::maude;
 use benchmarks::measuring::{cell, least_times, mean};
 use benchmarks::workloads::{
-    growing_sums, merges_in_growing_areas, merges_of_longer_chains, single_action, sizes,
+    counts, growing_sums, merges_in_growing_areas, merges_of_longer_chains, single_action, sizes,
     sum_tables, texts, walks, Places, Reading, Replay, Unfolding, Workload, REPLAYED,
 };
 use reference::plans::LONGEST_PLAN;
@@ -26,9 +26,12 @@ fn main() {
     );
     println!("plan of one action. Maude: its own report, for one of many reductions of the plan;");
     println!(
-        "rewrites are the equations that it used for one. The last three tables are of texts, for"
+        "rewrites are the equations that it used for one. The last four tables are of texts, for"
     );
-    println!("a call and for a character, and of messages to walks, for a call and for a word.");
+    println!(
+        "a call and for a character, and of messages to walks and counts of paths, for a call"
+    );
+    println!("and for a word.");
     match PROVED {
         Some(_) => println!("\nIn each row the proved library and the plain version were first called once each, and\nagreed in every number answered and in every lent byte."),
         None => println!("\nThe proved library is left out: build with `--features archive` to link it."),
@@ -45,6 +48,7 @@ fn main() {
     short_texts();
     long_texts();
     messages();
+    counted_paths();
 }
 
 /// What the proved library and the plain version take.
@@ -330,4 +334,46 @@ fn messages() {
     }
     let [call, alone] = ratios.map(|ratios| cell(mean(&ratios)));
     println!("| geometric mean | | | | | {call} | | | | | | | | {alone} |");
+}
+
+fn counted_paths() {
+    println!("\n### Counting: orders and stuck paths\n");
+    println!(
+        "Nanoseconds for the call, and for a word of the plan; beside it `is_basic` of the same plan,"
+    );
+    println!(
+        "which judges as much and counts nothing. The library has both in code of their own, so that"
+    );
+    println!(
+        "one less the other is not what counting takes. Crusted coin: the plan that the bench"
+    );
+    println!(
+        "comes to. Deep: a chain of actions. Sum: of actions. Wide: a sum of products. Both: a"
+    );
+    println!("sum of products, actions, and actions before dead stops. Stuck: a sum of actions");
+    println!("before dead stops.\n");
+    println!("| plan | words | call: proved | plain | proved/plain | reference | a word: proved | plain | `is_basic`: proved | plain | proved/plain |");
+    println!("|---|--:|--:|--:|--:|--:|--:|--:|--:|--:|--:|");
+    let mut ratios: [Vec<f64>; 2] = Default::default();
+    for (names, mut counting) in counts() {
+        let call = Times::measure(&names, &mut counting);
+        let judging = Times::measure(&names, &mut counting.judging());
+        let [reference] = least_times(|_| {
+            counting.run(REFERENCE);
+        });
+        let each = call.each(counting.plan.len());
+        println!(
+            "| {names} | {} | {} | {} | {} | {} |",
+            call.cells(),
+            cell(Some(reference)),
+            cell(each.proved),
+            cell(Some(each.plain)),
+            judging.cells(),
+        );
+        for (ratios, times) in ratios.iter_mut().zip([call, judging]) {
+            ratios.extend(times.ratio());
+        }
+    }
+    let [call, judging] = ratios.map(|ratios| cell(mean(&ratios)));
+    println!("| geometric mean | | | | {call} | | | | | | {judging} |");
 }

@@ -1,4 +1,5 @@
-//! Calls to measure: plans to unfold, rewritings to replay, texts to read and messages to walks.
+//! Calls to measure: plans to unfold, rewritings to replay, texts to read, messages to walks and
+//! paths to count.
 
 use crate::contenders::{Contender, Ended, PLAIN};
 use reference::plans::{CHOICE, ENCAPSULATION, LONGEST_PLAN, MERGE, PRODUCT, THETA};
@@ -607,6 +608,90 @@ pub fn walks() -> Vec<(String, Walking)> {
     plans.into_iter().flat_map(with_marks).collect()
 }
 
+/// A plan whose orders and stuck paths are counted. Nothing is lent.
+pub struct Counting {
+    tables: Vec<u8>,
+    /// The plan.
+    pub plan: Vec<u8>,
+}
+
+impl Counting {
+    /// The question whether the same plan is basic: it judges as much as the count does, and counts
+    /// nothing.
+    pub fn judging(&self) -> Judging {
+        Judging {
+            tables: self.tables.clone(),
+            plan: self.plan.clone(),
+        }
+    }
+}
+
+impl Workload for Counting {
+    fn run(&mut self, contender: Contender) -> Ended {
+        (contender.count_orders)(&self.tables, &self.plan)
+    }
+
+    fn lent(&mut self) -> Vec<&mut [u8]> {
+        Vec::new()
+    }
+}
+
+/// A plan of which is asked whether it is basic. Nothing is lent.
+pub struct Judging {
+    tables: Vec<u8>,
+    plan: Vec<u8>,
+}
+
+impl Workload for Judging {
+    fn run(&mut self, contender: Contender) -> Ended {
+        (contender.is_basic)(&self.tables, &self.plan)
+    }
+
+    fn lent(&mut self) -> Vec<&mut [u8]> {
+        Vec::new()
+    }
+}
+
+/// A sum of so many words, a multiple of 3: of any four summands one is an action before dead stop,
+/// one a product of two actions, and two are actions.
+fn both_plan(words: usize) -> Vec<u8> {
+    let summand = |index: usize| {
+        let (a, b) = (1 + (index % 4) as u8, 1 + (index / 4 % 4) as u8);
+        match index % 4 {
+            0 => vec![b, DEAD_STOP, PRODUCT],
+            1 => vec![b, a, PRODUCT],
+            _ => vec![b],
+        }
+    };
+    sum((0..words / 3).map(summand))
+}
+
+/// A sum of so many words: actions before dead stops.
+fn stuck_plan(words: usize) -> Vec<u8> {
+    let stuck = |index: usize| vec![1 + (index % 4) as u8, DEAD_STOP, PRODUCT];
+    sum((0..words.div_ceil(4)).map(stuck))
+}
+
+/// The counts measured, each with the cells that name it: plan and words. All but that of the bench
+/// are as long as a basic plan can be.
+pub fn counts() -> Vec<(String, Counting)> {
+    let longest = LONGEST_PLAN - 1;
+    let (tables, plan) = bench();
+    let mut plans = vec![("crusted coin", tables, plan)];
+    plans.extend([
+        ("deep", trial_tables(), deep_plan(longest)),
+        ("sum", trial_tables(), long_sum(longest)),
+        ("wide", trial_tables(), wide_plan(longest)),
+        ("both", trial_tables(), both_plan(longest)),
+        ("stuck", trial_tables(), stuck_plan(longest)),
+    ]);
+    let with_cells = |(name, tables, plan): (&str, Vec<u8>, Vec<u8>)| {
+        let cells = format!("{name} | {}", plan.len());
+        (cells, Counting { tables, plan })
+    };
+    plans.into_iter().map(with_cells).collect()
+}
+
 #[cfg(test)]
 mod tests {
     use super::*;
@@ -702,6 +787,25 @@ mod tests {
             assert_eq!(first.0 .0, 0, "{name}");
             assert!(walking.outcome(PLAIN) == first, "{name}");
             assert!(walking.marks != walking.given, "{name}");
+        }
+    }
+
+    #[test]
+    fn paths_are_counted_in_basic_plans_of_these_lengths() {
+        let wanted = [
+            ("crusted coin | 45", (6, 0)),
+            ("deep | 16383", (1, 0)),
+            ("sum | 16383", (8192, 0)),
+            ("wide | 16383", (4096, 0)),
+            ("both | 16383", (4095, 1366)),
+            ("stuck | 16383", (0, 4096)),
+        ];
+        let counts = counts();
+        assert_eq!(counts.len(), wanted.len());
+        for ((cells, mut counting), (name, (orders, stuck))) in counts.into_iter().zip(wanted) {
+            assert_eq!(cells, name);
+            assert_eq!(counting.judging().run(PLAIN), (0, 0, 1), "{name}");
+            assert_eq!(counting.run(PLAIN), (0, orders, stuck), "{name}");
         }
     }
 }

@@ -4,13 +4,13 @@
 use benchmarks::contenders::{Contender, PLAIN, REFERENCE};
 use benchmarks::plain;
 use benchmarks::workloads::{
-    stopped_merges, texts, walks, Unfolding, Workload, MERGES, STOPPED_CHAINS,
+    counts, stopped_merges, texts, walks, Unfolding, Workload, MERGES, STOPPED_CHAINS,
 };
 use differential::{compare, Answer, Call, Implementation, Reference};
 use reference::plans::LONGEST_PLAN;
 
-/// The plain version's unfolding, checker, reader of texts and walks; the other calls are the
-/// reference's.
+/// The plain version's unfolding, checker, reader of texts, walks and counts; the other calls are
+/// the reference's.
 struct Plain;
 
 impl Implementation for Plain {
@@ -33,6 +33,10 @@ impl Implementation for Plain {
                     plain::walk(tables, plan, marks, message, finished)
                 })
             }
+            Call::IsBasic(tables, plan) => {
+                Answer::counted(plain::is_basic(tables, plan).map(usize::from))
+            }
+            Call::CountOrders(tables, plan) => Answer::paths(plain::count_orders(tables, plan)),
             other => Reference.answer(other),
         }
     }
@@ -78,6 +82,28 @@ fn messages_agree_with_the_reference() {
         let mut beginning = walking.beginning();
         let same = beginning.outcome(PLAIN) == beginning.outcome(REFERENCE);
         assert!(same, "{name}");
+    }
+}
+
+/// The counts of the benchmark.
+#[test]
+fn counts_agree_with_the_reference() {
+    for (name, mut counting) in counts() {
+        assert_eq!(counting.run(PLAIN), counting.run(REFERENCE), "{name}");
+        let mut judging = counting.judging();
+        assert_eq!(judging.run(PLAIN), judging.run(REFERENCE), "{name}");
+    }
+}
+
+/// The counts of the benchmark.
+#[cfg(feature = "archive")]
+#[test]
+fn counts_agree_with_the_proved_library() {
+    let proved = benchmarks::contenders::PROVED.expect("the archive is linked");
+    for (name, mut counting) in counts() {
+        assert_eq!(counting.run(PLAIN), counting.run(proved), "{name}");
+        let mut judging = counting.judging();
+        assert_eq!(judging.run(PLAIN), judging.run(proved), "{name}");
     }
 }
 

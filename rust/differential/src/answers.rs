@@ -1,5 +1,6 @@
 //! What the calls answer, in a form that all implementations share.
 
+use reference::plans::Counts;
 use reference::{checking, unfolding, Refusal};
 
 /// What a call answers: every number that it sets.
@@ -8,7 +9,8 @@ pub struct Answer {
     /// 0, or the number of the refusal or of the ending; of a call that hands bytes over, 0,
     /// or 1 where the area is too short.
     pub number: u8,
-    /// Steps and size; or the one number asked for, then 0; 0 where refused.
+    /// Steps and size; or orders and stuck paths; or the one number asked for, then 0; 0 where
+    /// refused.
     pub values: [usize; 2],
     /// The printed place; 0 where none is named.
     pub place: usize,
@@ -62,6 +64,14 @@ impl Answer {
     pub fn counted(result: Result<usize, Refusal>) -> Answer {
         match result {
             Ok(value) => Answer::ended(0, [value, 0]),
+            Err(refusal) => Answer::refused(refusal),
+        }
+    }
+
+    /// Orders and stuck paths, or a refusal.
+    pub fn paths(result: Result<Counts, Refusal>) -> Answer {
+        match result {
+            Ok(Counts { orders, stuck }) => Answer::ended(0, [orders, stuck]),
             Err(refusal) => Answer::refused(refusal),
         }
     }
@@ -128,6 +138,18 @@ impl From<aberulwy::raw::Counted> for Answer {
             number: counted.number,
             values: [counted.value, 0],
             place: counted.place,
+            own: [0; 5],
+        }
+    }
+}
+
+#[cfg(feature = "archive")]
+impl From<aberulwy::raw::CountedPaths> for Answer {
+    fn from(paths: aberulwy::raw::CountedPaths) -> Answer {
+        Answer {
+            number: paths.number,
+            values: [paths.orders, paths.stuck],
+            place: paths.place,
             own: [0; 5],
         }
     }

@@ -8,12 +8,12 @@ use reference::random::cases::{
     check_case, own_rewriting_case, station_case, station_file, tables_and_plan, unfold_case_of,
     CheckCase, StationCase, UnfoldCase,
 };
-use reference::random::plans::{basic_plan, plan};
+use reference::random::plans::{basic_plan, plan, repeating_basic_plan};
 use reference::random::rewritings::{damage_rewriting, derivation};
 use reference::random::tables::{damaged_tables, lawful_tables};
 use reference::random::texts::{long_text, text_case, text_case_of, TextCase};
 use reference::random::walks::{
-    fresh_walk_case, messages_case, walk_case, FreshWalkCase, MessagesCase, WalkCase,
+    self, fresh_walk_case, messages_case, walk_case, FreshWalkCase, MessagesCase, WalkCase,
 };
 use reference::random::Random;
 use reference::stations::{program, write_station};
@@ -28,7 +28,7 @@ pub enum Case {
     JudgePlan(Vec<u8>, Vec<u8>),
     /// Tables and a plan, basic or not.
     IsBasic(Vec<u8>, Vec<u8>),
-    /// Tables and a plan whose orders are counted.
+    /// Tables and a plan whose orders and stuck paths are counted.
     CountOrders(Vec<u8>, Vec<u8>),
     /// An unfolding.
     Unfold(UnfoldCase),
@@ -138,7 +138,7 @@ impl Case {
                 Case::IsBasic(tables, plan)
             }
             4 => {
-                let (tables, plan) = near_basic(random);
+                let (tables, plan) = any_count(random);
                 Case::CountOrders(tables, plan)
             }
             5..=8 => Case::Unfold(any_unfolding(random)),
@@ -420,11 +420,11 @@ fn near_basic(random: &mut Random) -> (Vec<u8>, Vec<u8>) {
         return handed_in(random);
     }
     let tables = lawful_tables(random);
-    let leaves = match random.below(64) {
+    let paths = match random.below(64) {
         0 => random.between(1, 2000),
         _ => random.between(1, 12),
     };
-    let mut plan = basic_plan(random, tables[0], leaves);
+    let mut plan = basic_plan(random, tables[0], paths);
     if random.once_in(2) {
         let at = random.below(plan.len());
         plan[at] = match operands(plan[at]) {
@@ -433,4 +433,18 @@ fn near_basic(random: &mut Random) -> (Vec<u8>, Vec<u8>) {
         };
     }
     (tables, plan)
+}
+
+/// Tables and a plan to count the paths of: as for whether a plan is basic, or as for a walk, whose
+/// plans are mostly basic and repeat their actions; at times as long as a basic plan can be.
+fn any_count(random: &mut Random) -> (Vec<u8>, Vec<u8>) {
+    if random.once_in(LONG_ONCE_IN) {
+        let tables = lawful_tables(random);
+        let plan = repeating_basic_plan(random, tables[0], LONGEST_PLAN / 2);
+        return (tables, plan);
+    }
+    match random.once_in(2) {
+        true => near_basic(random),
+        false => walks::tables_and_plan(random),
+    }
 }

@@ -13,7 +13,7 @@ pub enum Call<'c> {
     JudgePlan(&'c [u8], &'c [u8]),
     /// Whether a plan is basic, 1 or 0: tables, plan.
     IsBasic(&'c [u8], &'c [u8]),
-    /// A plan's orders: tables, plan.
+    /// Counts a plan's paths: tables, plan; answers orders and stuck paths.
     CountOrders(&'c [u8], &'c [u8]),
     /// Unfolds: tables, plan, allowance, list, areas A and B; answers steps and size.
     Unfold(
@@ -79,7 +79,7 @@ impl Implementation for Reference {
             Call::IsBasic(tables, plan) => {
                 Answer::counted(plans::judged_basic(tables, plan).map(usize::from))
             }
-            Call::CountOrders(tables, plan) => Answer::counted(plans::judged_orders(tables, plan)),
+            Call::CountOrders(tables, plan) => Answer::paths(plans::judged_orders(tables, plan)),
             Call::Unfold(tables, plan, allowance, list, a, b) => {
                 unfolding::unfold(tables, plan, allowance, list, a, b).into()
             }

@@ -3,7 +3,8 @@
 use differential::{compare, Answer, Call, Case, Implementation, Outcome, Reference};
 use reference::plans::{is_basic, subplan};
 use reference::random::Random;
-use std::collections::BTreeSet;
+use reference::reading::paths_of;
+use std::collections::{BTreeMap, BTreeSet};
 
 /// What is changed in a copy.
 #[derive(Clone, Copy, Debug, PartialEq, Eq)]
@@ -20,8 +21,16 @@ enum Damage {
     LastSign,
     /// Dead stop alone is not basic.
     DeadStopBasic,
-    /// Dead stop counts 0 orders instead of 1.
+    /// Dead stop counts as an order instead of a stuck path.
     DeadStopOrders,
+    /// Dead stops of a plan that is not basic count as stuck paths.
+    StuckNotBasic,
+    /// Orders and stuck paths are exchanged.
+    StuckExchanged,
+    /// Stuck paths are not set where the call is refused.
+    StuckRefused,
+    /// A path that stands twice counts once.
+    PathsOnce,
     /// An allowance above 0 counts one less.
     Allowance,
     /// A step needs four free bytes of the list instead of three.
@@ -124,13 +133,17 @@ enum Damage {
 
 use Damage::*;
 
-const ALL: [Damage; 55] = [
+const ALL: [Damage; 59] = [
     MostActions,
     TripleWeight,
     LongestPlan,
     LastSign,
     DeadStopBasic,
     DeadStopOrders,
+    StuckNotBasic,
+    StuckExchanged,
+    StuckRefused,
+    PathsOnce,
     Allowance,
     Record,
     Room,
@@ -240,8 +253,22 @@ impl Damaged {
 
     fn count_orders(&self, tables: &[u8], plan: &[u8]) -> Answer {
         let mut answer = Reference.answer(Call::CountOrders(tables, plan));
-        if self.0 == DeadStopOrders && answer.values[0] > 0 {
-            answer.values[0] -= plan.iter().filter(|&&word| word == 0).count();
+        let [orders, stuck] = answer.values;
+        match (self.0, answer.number) {
+            (DeadStopOrders, 0) => answer.values = [orders + stuck, 0],
+            (StuckNotBasic, 0) if orders + stuck == 0 => {
+                answer.values[1] = plan.iter().filter(|&&word| word == 0).count();
+            }
+            (StuckExchanged, 0) => answer.values = [stuck, orders],
+            (StuckRefused, 1..) => answer.values[1] = usize::MAX,
+            // All paths of a long plan are much to write out.
+            (PathsOnce, 0) if orders + stuck > 0 && plan.len() < 100 => {
+                let paths = paths_of(plan).into_iter();
+                let once: BTreeSet<_> = paths.map(|path| (path.stuck, path.actions)).collect();
+                let stuck = once.iter().filter(|(stuck, _)| *stuck).count();
+                answer.values = [once.len() - stuck, stuck];
+            }
+            _ => {}
         }
         answer
     }
@@ -632,6 +659,19 @@ fn a_difference_is_made_small_and_printed() {
 }
 
 #[test]
+fn a_count_is_made_small_and_printed() {
+    let difference = compare(&Reference, &Damaged(DeadStopOrders), 10_000, 3).unwrap_err();
+    let Case::CountOrders(_, plan) = &difference.case else {
+        panic!("{difference}");
+    };
+    assert_eq!(plan[..], [0], "{difference}");
+    let printed = difference.to_string();
+    assert!(printed.contains("  plan: [0]\n"), "{printed}");
+    assert!(printed.contains("  first: number 0, values [0, 1], place 0\n"));
+    assert!(printed.contains("  second: number 0, values [1, 0], place 0\n"));
+}
+
+#[test]
 fn a_text_is_made_small_and_printed() {
     let difference = compare(&Reference, &Damaged(TextSign), 10_000, 3).unwrap_err();
     let Case::ReadText(case) = &difference.case else {
@@ -649,7 +689,7 @@ fn a_text_is_made_small_and_printed() {
 
 #[test]
 fn a_walk_is_made_small_and_printed() {
-    let difference = compare(&Reference, &Damaged(WalkBranch), 10_000, 3).unwrap_err();
+    let difference = compare(&Reference, &Damaged(WalkBranch), 10_000, 6).unwrap_err();
     let Case::Walk(case) = &difference.case else {
         panic!("{difference}");
     };
@@ -667,7 +707,7 @@ fn a_walk_is_made_small_and_printed() {
         "{printed}"
     );
     // A list of messages needs one; each call is printed.
-    let difference = compare(&Reference, &Damaged(WalkSum), 10_000, 3).unwrap_err();
+    let difference = compare(&Reference, &Damaged(WalkSum), 10_000, 7).unwrap_err();
     let Case::Messages(case) = &difference.case else {
         panic!("{difference}");
     };
@@ -720,16 +760,75 @@ fn every_kind_of_listing_is_drawn() {
         if let Case::ListStation(_) = case {
             let outcome = case.run(&Reference);
             let text = String::from_utf8_lossy(&outcome.lent[0]);
-            let words: Vec<&str> = text.split_whitespace().take(2).collect();
+            let first = text.lines().next().unwrap_or("");
+            let words: Vec<&str> = first.split(' ').collect();
             met.insert(match (outcome.answer.number, &words[..]) {
-                (0, ["end", number]) => format!("end {number}"),
-                (0, ["refused", _]) => "refused".to_string(),
+                (0, ["end", "0", .., "orders", _, "stuck", "0"]) => "end 0, orders".to_string(),
+                (0, ["end", "0", .., "orders", "0", "stuck", _]) => "end 0, stuck".to_string(),
+                (0, ["end", "0", ..]) => "end 0, orders and stuck".to_string(),
+                (0, ["end", number, ..]) => format!("end {number}"),
+                (0, ["refused", ..]) => "refused".to_string(),
                 _ => "short".to_string(),
             });
         }
     }
     let kinds: Vec<&str> = met.iter().map(String::as_str).collect();
-    assert_eq!(kinds, ["end 0", "end 34", "end 36", "refused", "short"]);
+    assert_eq!(
+        kinds,
+        [
+            "end 0, orders",
+            "end 0, orders and stuck",
+            "end 0, stuck",
+            "end 34",
+            "end 36",
+            "refused",
+            "short"
+        ]
+    );
+}
+
+#[test]
+fn every_kind_of_count_is_drawn() {
+    let (mut met, mut longest) = (BTreeMap::new(), 0);
+    for seed in 0..16_000 {
+        let case = Case::draw(seed);
+        let Case::CountOrders(_, plan) = &case else {
+            continue;
+        };
+        let answer = case.run(&Reference).answer;
+        let kind = match (answer.number, answer.values) {
+            (1..=8, _) => "tables",
+            (11..=14, _) => "plan",
+            (_, [0, 0]) => "not basic",
+            (_, [0, 1]) if plan[..] == [0] => "dead stop alone",
+            (_, [0, 1]) => "one stuck",
+            (_, [0, _]) => "several stuck",
+            (_, [1, 0]) => "one order",
+            (_, [_, 0]) => "several orders",
+            (_, [_, _]) => "orders and stuck",
+        };
+        *met.entry(kind).or_insert(0) += 1;
+        if answer.values != [0, 0] {
+            longest = longest.max(plan.len());
+        }
+    }
+    let kinds: Vec<&str> = met.keys().copied().collect();
+    assert_eq!(
+        kinds,
+        [
+            "dead stop alone",
+            "not basic",
+            "one order",
+            "one stuck",
+            "orders and stuck",
+            "plan",
+            "several orders",
+            "several stuck",
+            "tables"
+        ]
+    );
+    assert!(met.values().all(|&count| count > 5), "{met:?}");
+    assert_eq!(longest, 16_383);
 }
 
 #[test]

@@ -173,7 +173,7 @@ B   01 02 40 00    reached
         let zeros = |count| "\0".repeat(count);
         let first = format!("\0\0\u{1}\0\u{2}\0\u{4}\u{3}{}\u{5}", zeros(503));
         let station = format!("{first}\u{1}\0\u{1}{}", zeros(509));
-        let listing = "end 0 steps 1 size 3 orders 1\n1 2 64\n11 2\n";
+        let listing = "end 0 steps 1 size 3 orders 2 stuck 0\n1 2 64\n11 2\n";
         let found = |text: &str| {
             let files = [(FILE, text), (STATION, &station), (LISTING, listing)];
             crate::printed(check(&Repository::of(&files)))

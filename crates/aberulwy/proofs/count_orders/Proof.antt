@@ -4,7 +4,7 @@ use mathlib.Core.Option.{none, some}
 use Rattle.refusals.proofs.Judging.{accepted-none, refused-some}
 use Rattle.plans.specs.Judging.{plan-refusal}
 use Rattle.aberulwy.specs.Judging.{orders-answer}
-use Rattle.aberulwy.proofs.Judging.{few-of}
+use Rattle.aberulwy.proofs.Judging.{few-of, orders-claimed}
 use borrow.Author.Needs.{needs}
 use Rattle.aberulwy.proofs.count_orders.Statement.{statement}
 use Rattle.aberulwy.proofs.count_orders.Tie as tie
@@ -22,7 +22,10 @@ refused c = refused-some _ _ (sym (c .before .before .judge-plan .ensures) ∙ c
 
 returns : tie.Need-returns
 unfolding orders-answer
-returns c = rw (refused (c .before)) (refl, refl)
+returns c =
+    let s = c .before .before .before .before .before .before .args in
+    let q = orders-claimed (s .tables .now) (s .plan .now) in
+    rw (refused (c .before)) (refl, (refl, rw (refused (c .before)) at q))
 
 enum-told : tie.Need-enum-told
 enum-told c = search needs
@@ -40,7 +43,11 @@ count-orders-requires c κs = rw (c .actions-of .ensures) (few-of _ _ (accepted 
 
 returns-2 : tie.Need-returns-2
 unfolding orders-answer
-returns-2 c = rw (accepted (c .before), ← c .before .actions-of .ensures, ← c .count-orders .ensures) (refl, refl)
+returns-2 c =
+    let s = c .before .before .before .before .before .before .before .args in
+    let q = orders-claimed (s .tables .now) (s .plan .now) in
+    rw (accepted (c .before), ← c .before .actions-of .ensures, ← c .count-orders .ensures)
+    (refl, (refl, rw (accepted (c .before), ← c .before .actions-of .ensures, ← c .count-orders .ensures) at q))
 
 pub count-orders-spec : {M : Type 1} → statement M
 count-orders-spec =

@@ -39,7 +39,7 @@ slice-aggregate-put-steps : tie.Need-slice-aggregate-put-steps
 slice-aggregate-put-steps c = sym (length-take-le _ _ (omega arith))
 
 -- where the words end
-after : (c : tie.After-put-words) → c .put-words .result ≤ 106 + (4 * length (c .before .before .before .before .before .before .before .before .reached .result .now) + 1)
+after : (c : tie.After-put-words) → c .put-words .result ≤ 133 + (4 * length (c .before .before .before .before .before .before .before .before .reached .result .now) + 1)
 after c = omega (arith, c .put-words .ensures .1, c .before .before .before .before .put-first .ensures .1)
 
 put-steps-requires : tie.Need-put-steps-requires

@@ -203,6 +203,8 @@ mod before {
         read_text: |_, _, _| panic!("texts are not read by the earlier library"),
         fresh_walk: |_, _, _| panic!("walks are not begun by the earlier library"),
         walk: |_, _, _, _| panic!("walks are not followed by the earlier library"),
+        is_basic: |_, _| panic!("plans are not asked about in the earlier library"),
+        count_orders: |_, _| panic!("paths are not counted by the earlier library"),
     };
 
     /// Makes a call that sets steps, size and place.

@@ -7,10 +7,14 @@
 //! - the checker: `words`, `word_laws`, `gap`, `checking`
 //! - the unfolding: `records`, `graph`, `graph_laws`, `graph_steps`, `unfolding`
 //! - the reader of texts, which uses none of them: `texts`
-//! - the walks, which use none either: `walks`
+//! - what the walks and the counting share, which uses none of them: `basic`
+//! - the walks: `walks`
+//! - the counting: `counting`
 
 mod areas;
+mod basic;
 mod checking;
+mod counting;
 mod gap;
 mod graph;
 mod graph_laws;
@@ -22,7 +26,9 @@ mod walks;
 mod word_laws;
 mod words;
 
+pub use basic::is_basic;
 pub use checking::check_rewriting;
+pub use counting::count_orders;
 pub use texts::read_text;
 pub use unfolding::unfold;
 pub use walks::{fresh_walk, walk};

@@ -1,7 +1,8 @@
 //! Walks. A first pass over a plan's words tells whether it is basic, a second where its subplans
 //! start, and a third, from the last word to the first, what a message leads to.
 
-use reference::plans::{judge, operands, CHOICE, LONGEST_PLAN, PRODUCT};
+use super::basic::is_basic;
+use reference::plans::{operands, CHOICE, LONGEST_PLAN, PRODUCT};
 use reference::tables::{actions, DEAD_STOP};
 use reference::Refusal;
 
@@ -45,56 +46,13 @@ pub fn walk(
     Ok(())
 }
 
-/// Tables, plan, whether it is basic, and the length of the marks. Both calls use the same code, as
-/// in the library, so that what one takes can be taken off the other.
-#[inline(never)]
+/// Tables, plan, whether it is basic, and the length of the marks.
 fn judge_walk(tables: &[u8], plan: &[u8], marks: &[u8]) -> Result<(), Refusal> {
-    judge(tables, plan)?;
-    if are_basic(plan) && marks.len() == plan.len() {
+    if is_basic(tables, plan)? && marks.len() == plan.len() {
         Ok(())
     } else {
         Err(Refusal::nowhere(70))
     }
-}
-
-/// What a subplan is that a basic plan may have.
-#[derive(Clone, Copy, PartialEq)]
-enum Kind {
-    DeadStop,
-    Action,
-    Sum,
-}
-
-/// Whether the words of an accepted plan are a basic one.
-fn are_basic(plan: &[u8]) -> bool {
-    let mut kinds = [Kind::DeadStop; LONGEST_PLAN];
-    let mut waiting = 0;
-    for &word in plan {
-        match operands(word) {
-            0 => {
-                kinds[waiting] = match word {
-                    DEAD_STOP => Kind::DeadStop,
-                    _ => Kind::Action,
-                };
-                waiting += 1;
-            }
-            2 => {
-                waiting -= 1;
-                let (first, second) = (kinds[waiting - 1], kinds[waiting]);
-                let basic = match word {
-                    CHOICE => first != Kind::DeadStop && second != Kind::DeadStop,
-                    PRODUCT => first == Kind::Action,
-                    _ => false,
-                };
-                if !basic {
-                    return false;
-                }
-                kinds[waiting - 1] = Kind::Sum;
-            }
-            _ => return false,
-        }
-    }
-    true
 }
 
 /// Where the subplan starts whose last word each word of a basic plan is.

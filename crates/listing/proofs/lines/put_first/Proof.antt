@@ -1,4 +1,4 @@
--- `listing::lines::put_first` meets its contract: four labelled numbers and the end of the line, one after another.
+-- `listing::lines::put_first` meets its contract: five labelled numbers and the end of the line, one after another.
 use Prim.Native.Nat.{ℕ, _+_, _≤_}
 use native.Mathlib.Omega.{arith}
 use borrow.Author.Needs.{needs}
@@ -11,12 +11,15 @@ use Rattle.listing.proofs.Writing.{Going, going-all, going-room, going-
 use Rattle.listing.proofs.lines.put_first.Statement.{statement}
 use Rattle.listing.proofs.lines.put_first.Tie as tie
 
--- the line, and what is left of it after one, two and three numbers
+-- the line, and what is left of it after one number, two, three and four
 abbrev line : tie.Start → List ℕ
-line s = first-line (s .args .number) (s .args .steps) (s .args .size) (s .args .orders)
+line s = first-line (s .args .number) (s .args .steps) (s .args .size) (s .args .counts)
+
+abbrev rest4 : tie.Start → List ℕ
+rest4 s = labelled (ascii " stuck ") (s .args .counts .stuck) ++ line-end
 
 abbrev rest3 : tie.Start → List ℕ
-rest3 s = labelled (ascii " orders ") (s .args .orders) ++ line-end
+rest3 s = labelled (ascii " orders ") (s .args .counts .orders) ++ rest4 s
 
 abbrev rest2 : tie.Start → List ℕ
 rest2 s = labelled (ascii " size ") (s .args .size) ++ rest3 s
@@ -28,7 +31,7 @@ abbrev Now : tie.Start → List ℕ → ℕ → List ℕ → Type 0
 Now s d next rest = Going (s .args .out .now) (s .args .at) (line s) d next rest
 
 room : (s : tie.Start) → s .args .at + length (line s) ≤ length (s .args .out .now)
-room s = omega (arith, s .pre, first-short (s .args .number) (s .args .steps) (s .args .size) (s .args .orders))
+room s = omega (arith, s .pre, first-short (s .args .number) (s .args .steps) (s .args .size) (s .args .counts))
 
 start : (s : tie.Start) → Now s (s .args .out .now) (s .args .at) (labelled (ascii "end ") (s .args .number) ++ rest1 s)
 unfolding first-line
@@ -76,22 +79,34 @@ put-labelled-requires-4 : tie.Need-put-labelled-requires-4
 put-labelled-requires-4 c κs =
     let k = c .before .before .before .before in
     let s = k .before .before .before .before .before .before .before .before .before .before .before .before .before .before in
-    going-room (labelled (ascii " orders ") (s .args .orders)) line-end (three k) (room s)
+    going-room (labelled (ascii " orders ") (s .args .counts .orders)) (rest4 s) (three k) (room s)
 
-four : (c : tie.After-put-labelled4) → Now (c .before .before .before .before .before .before .before .before .before .before .before .before .before .before .before .before .before .before .before) (c .put-labelled4 .last .1 .1 .0) (c .put-labelled4 .result) line-end
+four : (c : tie.After-put-labelled4) → Now (c .before .before .before .before .before .before .before .before .before .before .before .before .before .before .before .before .before .before .before) (c .put-labelled4 .last .1 .1 .0) (c .put-labelled4 .result) (rest4 (c .before .before .before .before .before .before .before .before .before .before .before .before .before .before .before .before .before .before .before))
 four c = going-more (three (c .before .before .before .before .before)) (c .put-labelled4 .ensures) (c .put-labelled4 .kept .1 .1 .0)
 
+slice-aggregate-put-labelled-5 : tie.Need-slice-aggregate-put-labelled-5
+slice-aggregate-put-labelled-5 c = search needs
+
+put-labelled-requires-5 : tie.Need-put-labelled-requires-5
+put-labelled-requires-5 c κs =
+    let k = c .before .before .before .before in
+    let s = k .before .before .before .before .before .before .before .before .before .before .before .before .before .before .before .before .before .before .before in
+    going-room (labelled (ascii " stuck ") (s .args .counts .stuck)) line-end (four k) (room s)
+
+five : (c : tie.After-put-labelled5) → Now (c .before .before .before .before .before .before .before .before .before .before .before .before .before .before .before .before .before .before .before .before .before .before .before .before) (c .put-labelled5 .last .1 .1 .0) (c .put-labelled5 .result) line-end
+five c = going-more (four (c .before .before .before .before .before)) (c .put-labelled5 .ensures) (c .put-labelled5 .kept .1 .1 .0)
+
 put-line-end-requires : tie.Need-put-line-end-requires
-put-line-end-requires c κs = going-end (four (c .before .before .before)) (room (c .before .before .before .before .before .before .before .before .before .before .before .before .before .before .before .before .before .before .before .before .before .before))
+put-line-end-requires c κs = going-end (five (c .before .before .before)) (room (c .before .before .before .before .before .before .before .before .before .before .before .before .before .before .before .before .before .before .before .before .before .before .before .before .before .before .before))
 
 same-length : tie.Need-same-length
 same-length c = search needs
 
 returns : tie.Need-returns
 returns c =
-    let s = c .before .before .before .before .before .before .before .before .before .before .before .before .before .before .before .before .before .before .before .before .before .before .before .before .before .args in
-    let w = going-last (four (c .before .before .before .before .before .before)) (c .before .before .put-line-end .ensures) in
-    (w, wrote-within 106 w (first-short (s .number) (s .steps) (s .size) (s .orders)))
+    let s = c .before .before .before .before .before .before .before .before .before .before .before .before .before .before .before .before .before .before .before .before .before .before .before .before .before .before .before .before .before .before .args in
+    let w = going-last (five (c .before .before .before .before .before .before)) (c .before .before .put-line-end .ensures) in
+    (w, wrote-within 133 w (first-short (s .number) (s .steps) (s .size) (s .counts)))
 
 pub put-first-spec : {M : Type 1} → statement M
 put-first-spec =
@@ -105,6 +120,8 @@ put-first-spec =
     put-labelled-requires-3
     slice-aggregate-put-labelled-4
     put-labelled-requires-4
+    slice-aggregate-put-labelled-5
+    put-labelled-requires-5
     put-line-end-requires
     same-length
     returns)
