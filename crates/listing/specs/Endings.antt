@@ -25,8 +25,8 @@ file-run f = run-of (tables-held f) (plan-held f) 5000 15000 8192
 abbrev pub file-counts : List ℕ → Counts
 file-counts f = counts-of (actions (tables-held f)) (file-run f .plan)
 
--- "It prints `end E steps S size Z orders O` (E is 0, 34 or 36), …", since request 103 with `stuck K` behind; "or only `refused N P`": the first of a file that is
--- not refused, the other of one that is
+-- "It prints `end E steps S size Z orders O` (E is 0, 34 or 36), …", since request 103 with `stuck K` behind; "or only `refused N P`": the first of a
+-- file that is not refused, the other of one that is
 pub data Endings (f : List ℕ) : Type 0 where
   ended : file-refusal f 2305 8192 ≡ none → EndNumber (file-run f .number) (file-counts f) → listing f ≡ run-listing (tables-held f) (file-run f) → Endings f
   refused : (r : Refusal) → file-refusal f 2305 8192 ≡ some r → listing f ≡ refused-line r → Endings f

@@ -18,7 +18,11 @@ use Rattle.listing.specs.Text.{labelled, line-end, space, ascii}
 unfoldable pub first-line : ℕ → ℕ → ℕ → Counts → List ℕ
 first-line e s z c =
     labelled (ascii "end ") e
-    ++ (labelled (ascii " steps ") s ++ (labelled (ascii " size ") z ++ (labelled (ascii " orders ") (c .orders) ++ (labelled (ascii " stuck ") (c .stuck) ++ line-end))))
+    ++ (labelled (ascii " steps ") s
+    ++ (labelled (ascii " size ") z
+    ++ (labelled (ascii " orders ") (c .orders)
+    ++ (labelled (ascii " stuck ") (c .stuck)
+    ++ line-end))))
 
 -- "a line of the words reached", with one space between two words
 unfoldable pub further-words : List ℕ → List ℕ

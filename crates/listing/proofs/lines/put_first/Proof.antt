@@ -27,6 +27,22 @@ rest2 s = labelled (ascii " size ") (s .args .size) ++ rest3 s
 abbrev rest1 : tie.Start → List ℕ
 rest1 s = labelled (ascii " steps ") (s .args .steps) ++ rest2 s
 
+-- where the function started, from the state after each number
+abbrev from1 : tie.After-put-labelled → tie.Start
+from1 c = c .before .before .before .before
+
+abbrev from2 : tie.After-put-labelled2 → tie.Start
+from2 c = from1 (c .before .before .before .before .before)
+
+abbrev from3 : tie.After-put-labelled3 → tie.Start
+from3 c = from2 (c .before .before .before .before .before)
+
+abbrev from4 : tie.After-put-labelled4 → tie.Start
+from4 c = from3 (c .before .before .before .before .before)
+
+abbrev from5 : tie.After-put-labelled5 → tie.Start
+from5 c = from4 (c .before .before .before .before .before)
+
 abbrev Now : tie.Start → List ℕ → ℕ → List ℕ → Type 0
 Now s d next rest = Going (s .args .out .now) (s .args .at) (line s) d next rest
 
@@ -37,8 +53,8 @@ start : (s : tie.Start) → Now s (s .args .out .now) (s .args .at) (labelled (a
 unfolding first-line
 start s = going-all _ _ _
 
-one : (c : tie.After-put-labelled) → Now (c .before .before .before .before) (c .put-labelled .last .1 .1 .0) (c .put-labelled .result) (rest1 (c .before .before .before .before))
-one c = going-more (start (c .before .before .before .before)) (c .put-labelled .ensures) (c .put-labelled .kept .1 .1 .0)
+one : (c : tie.After-put-labelled) → Now (from1 c) (c .put-labelled .last .1 .1 .0) (c .put-labelled .result) (rest1 (from1 c))
+one c = going-more (start (from1 c)) (c .put-labelled .ensures) (c .put-labelled .kept .1 .1 .0)
 
 slice-aggregate-put-labelled : tie.Need-slice-aggregate-put-labelled
 slice-aggregate-put-labelled c = search needs
@@ -54,10 +70,10 @@ slice-aggregate-put-labelled-2 c = search needs
 put-labelled-requires-2 : tie.Need-put-labelled-requires-2
 put-labelled-requires-2 c κs =
     let k = c .before .before .before .before in
-    let s = k .before .before .before .before in
+    let s = from1 k in
     going-room (labelled (ascii " steps ") (s .args .steps)) (rest2 s) (one k) (room s)
 
-two : (c : tie.After-put-labelled2) → Now (c .before .before .before .before .before .before .before .before .before) (c .put-labelled2 .last .1 .1 .0) (c .put-labelled2 .result) (rest2 (c .before .before .before .before .before .before .before .before .before))
+two : (c : tie.After-put-labelled2) → Now (from2 c) (c .put-labelled2 .last .1 .1 .0) (c .put-labelled2 .result) (rest2 (from2 c))
 two c = going-more (one (c .before .before .before .before .before)) (c .put-labelled2 .ensures) (c .put-labelled2 .kept .1 .1 .0)
 
 slice-aggregate-put-labelled-3 : tie.Need-slice-aggregate-put-labelled-3
@@ -66,10 +82,10 @@ slice-aggregate-put-labelled-3 c = search needs
 put-labelled-requires-3 : tie.Need-put-labelled-requires-3
 put-labelled-requires-3 c κs =
     let k = c .before .before .before .before in
-    let s = k .before .before .before .before .before .before .before .before .before in
+    let s = from2 k in
     going-room (labelled (ascii " size ") (s .args .size)) (rest3 s) (two k) (room s)
 
-three : (c : tie.After-put-labelled3) → Now (c .before .before .before .before .before .before .before .before .before .before .before .before .before .before) (c .put-labelled3 .last .1 .1 .0) (c .put-labelled3 .result) (rest3 (c .before .before .before .before .before .before .before .before .before .before .before .before .before .before))
+three : (c : tie.After-put-labelled3) → Now (from3 c) (c .put-labelled3 .last .1 .1 .0) (c .put-labelled3 .result) (rest3 (from3 c))
 three c = going-more (two (c .before .before .before .before .before)) (c .put-labelled3 .ensures) (c .put-labelled3 .kept .1 .1 .0)
 
 slice-aggregate-put-labelled-4 : tie.Need-slice-aggregate-put-labelled-4
@@ -78,10 +94,10 @@ slice-aggregate-put-labelled-4 c = search needs
 put-labelled-requires-4 : tie.Need-put-labelled-requires-4
 put-labelled-requires-4 c κs =
     let k = c .before .before .before .before in
-    let s = k .before .before .before .before .before .before .before .before .before .before .before .before .before .before in
+    let s = from3 k in
     going-room (labelled (ascii " orders ") (s .args .counts .orders)) (rest4 s) (three k) (room s)
 
-four : (c : tie.After-put-labelled4) → Now (c .before .before .before .before .before .before .before .before .before .before .before .before .before .before .before .before .before .before .before) (c .put-labelled4 .last .1 .1 .0) (c .put-labelled4 .result) (rest4 (c .before .before .before .before .before .before .before .before .before .before .before .before .before .before .before .before .before .before .before))
+four : (c : tie.After-put-labelled4) → Now (from4 c) (c .put-labelled4 .last .1 .1 .0) (c .put-labelled4 .result) (rest4 (from4 c))
 four c = going-more (three (c .before .before .before .before .before)) (c .put-labelled4 .ensures) (c .put-labelled4 .kept .1 .1 .0)
 
 slice-aggregate-put-labelled-5 : tie.Need-slice-aggregate-put-labelled-5
@@ -90,21 +106,21 @@ slice-aggregate-put-labelled-5 c = search needs
 put-labelled-requires-5 : tie.Need-put-labelled-requires-5
 put-labelled-requires-5 c κs =
     let k = c .before .before .before .before in
-    let s = k .before .before .before .before .before .before .before .before .before .before .before .before .before .before .before .before .before .before .before in
+    let s = from4 k in
     going-room (labelled (ascii " stuck ") (s .args .counts .stuck)) line-end (four k) (room s)
 
-five : (c : tie.After-put-labelled5) → Now (c .before .before .before .before .before .before .before .before .before .before .before .before .before .before .before .before .before .before .before .before .before .before .before .before) (c .put-labelled5 .last .1 .1 .0) (c .put-labelled5 .result) line-end
+five : (c : tie.After-put-labelled5) → Now (from5 c) (c .put-labelled5 .last .1 .1 .0) (c .put-labelled5 .result) line-end
 five c = going-more (four (c .before .before .before .before .before)) (c .put-labelled5 .ensures) (c .put-labelled5 .kept .1 .1 .0)
 
 put-line-end-requires : tie.Need-put-line-end-requires
-put-line-end-requires c κs = going-end (five (c .before .before .before)) (room (c .before .before .before .before .before .before .before .before .before .before .before .before .before .before .before .before .before .before .before .before .before .before .before .before .before .before .before))
+put-line-end-requires c κs = going-end (five (c .before .before .before)) (room (from5 (c .before .before .before)))
 
 same-length : tie.Need-same-length
 same-length c = search needs
 
 returns : tie.Need-returns
 returns c =
-    let s = c .before .before .before .before .before .before .before .before .before .before .before .before .before .before .before .before .before .before .before .before .before .before .before .before .before .before .before .before .before .before .args in
+    let s = from5 (c .before .before .before .before .before .before) .args in
     let w = going-last (five (c .before .before .before .before .before .before)) (c .before .before .put-line-end .ensures) in
     (w, wrote-within 133 w (first-short (s .number) (s .steps) (s .size) (s .counts)))
 
