@@ -59,17 +59,12 @@ target (further x) p = subplan p (act 0)
 no-action : {A : Type 0} → SumPlan (act 0) → A
 no-action (basic-plan.action h) = absurd (omega arith)
 
--- a summand takes some message first
-over-left : {s : ℕ} {x y : Term} {ms : List ℕ} (e : Rest) (p : ℕ) → SumPlan x → Transitions (subplan s x) ms (target e p) → Transitions (subplan s (bin Choice x y)) ms (target e p)
-over-left finish p b (go i l) = go (subplans.left i) l
-over-left (further z) p b stay = no-action b
-over-left (further z) p b (go i l) = go (subplans.left i) l
-
-over-right : {s : ℕ} {x y : Term} {ms : List ℕ} (e : Rest) (p : ℕ) → SumPlan y → Transitions (subplan (s + length (words x)) y) ms (target e p)
-    → Transitions (subplan s (bin Choice x y)) ms (target e p)
-over-right finish p b (go i l) = go (subplans.right i) l
-over-right (further z) p b stay = no-action b
-over-right (further z) p b (go i l) = go (subplans.right i) l
+-- a summand takes some message first, and a sum takes it too
+over : {s r : ℕ} {x y : Term} {ms : List ℕ} (e : Rest) (p : ℕ) → ((m : ℕ) (g : Target) → Transition m r x g → Transition m s y g) → SumPlan x
+    → Transitions (subplan r x) ms (target e p) → Transitions (subplan s y) ms (target e p)
+over finish p f b (go i l) = go (f _ _ i) l
+over (further z) p f b stay = no-action b
+over (further z) p f b (go i l) = go (f _ _ i) l
 
 mutual
   path-transitions : {s p : ℕ} {u : Term} {ms : List ℕ} {e : Rest} → Basic u → PathTo s u ms e p → Transitions (subplan s u) ms (target e p)
@@ -81,8 +76,8 @@ mutual
   sum-transitions (basic-plan.action h) dead-stop = absurd (omega arith)
   sum-transitions (basic-plan.action h) (action i) = go (ends h) stay
   sum-transitions (basic-plan.prefix h b) (prefix i) = go goes (path-transitions b i)
-  sum-transitions (basic-plan.sum b c) (left {p = p} {e = e} i) = over-left e p b (sum-transitions b i)
-  sum-transitions (basic-plan.sum b c) (right {p = p} {e = e} i) = over-right e p c (sum-transitions c i)
+  sum-transitions (basic-plan.sum b c) (left {p = p} {e = e} i) = over e p (λ m g j. subplans.left j) b (sum-transitions b i)
+  sum-transitions (basic-plan.sum b c) (right {p = p} {e = e} i) = over e p (λ m g j. subplans.right j) c (sum-transitions c i)
 
 -- the other way round
 ends-path : {m s : ℕ} {u : Term} → Transition m s u at-finish → (p : ℕ) × PathTo s u (m ∷ []) finish p
