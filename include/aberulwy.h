@@ -23,7 +23,7 @@
 #include <stddef.h>
 #include <stdint.h>
 
-#define ABERULWY_VERSION "0.8.0"
+#define ABERULWY_VERSION "0.8.1"
 
 #ifdef __cplusplus
 extern "C" {

@@ -1,6 +1,7 @@
 pub mod Options
 pub mod Words
 mod Entries
+mod OperandTable
 pub mod Reading
 pub mod Place
 pub mod Accepted

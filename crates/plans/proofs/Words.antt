@@ -1,8 +1,8 @@
 -- How a byte and what it is read as determine each other.
-use Prim.Native.Nat.{ℕ, _+_, _-_, _≤_}
+use Prim.Native.Nat.{ℕ, _+_, _-_, _≤_, _<_}
 use native.Mathlib.Omega.{arith}
 use mathlib.Core.Path.{_≡_, refl, sym, ap}
-use mathlib.Core.Bool.{Bool, true, false, cond, _&&_, and-eq-true-iff}
+use mathlib.Core.Bool.{Bool, true, false, cond, _&&_, and-false, and-eq-true-iff}
 use lib.Dec.{eqb, leb}
 use borrow.Author.Tests.{eqb-true, leb-true, le-leb, lt-leb, ne-eqb}
 use Rattle.plans.specs.declared.Binary.{Binary}
@@ -13,6 +13,17 @@ use Rattle.plans.specs.declared.Word.{Word}
 use Rattle.plans.specs.declared.Word.the-variants.{Action, One, Two, NoWord}
 use Rattle.plans.specs.Word.{binary-word, unary-word, sign-of, word-of, operands-of, takes-two?}
 use Rattle.plans.specs.Term.{Set-number}
+
+-- tests of ranges
+module _ (low high w : ℕ) where
+  pub under-range : w < low → leb low w && leb w high ≡ false
+  under-range h = rw (lt-leb low w h) refl
+
+  pub over-range : high < w → leb low w && leb w high ≡ false
+  over-range h = rw (lt-leb w high h) (and-false (leb low w))
+
+  in-range : low ≤ w → w ≤ high → leb low w && leb w high ≡ true
+  in-range h l = rw (le-leb low w h, le-leb w high l) refl
 
 -- the bytes of the operators
 pub binary-range : (o : Binary) → (64 ≤ binary-word o) × (binary-word o ≤ 69)
@@ -71,25 +82,33 @@ module _ (n : ℕ) (few : n ≤ 31) where
   unfolding word-of
   word-binary o = rw (lt-leb (binary-word o) n (omega (arith, binary-range o))) (sign-binary o)
 
--- how many operands each takes
-pub operands-action : (a : ℕ) → a ≤ 31 → operands-of a ≡ 0
-unfolding operands-of
-operands-action a h = rw (le-leb a 31 h) refl
+-- how many operands the bytes of each range take
+module _ (w : ℕ) where
+  pub operands-action : w ≤ 31 → operands-of w ≡ 0
+  unfolding operands-of
+  operands-action h = rw (le-leb w 31 h) refl
 
+  pub operands-two : 64 ≤ w → w ≤ 69 → operands-of w ≡ 2
+  unfolding operands-of
+  operands-two h l = rw (lt-leb w 31 (omega arith), in-range 64 69 w h l) refl
+
+  pub operands-set : 80 ≤ w → w ≤ 87 → operands-of w ≡ 1
+  unfolding operands-of
+  operands-set h l =
+      rw (lt-leb w 31 (omega arith), over-range 64 69 w (omega arith), ne-eqb w 70 (λ e. omega arith), in-range 80 87 w h l) refl
+
+  pub operands-none : 32 ≤ w → (leb 64 w && leb w 69 ≡ false) → (w ≡ 70 → ⊥) → (leb 80 w && leb w 87 ≡ false) → operands-of w ≡ 3
+  unfolding operands-of
+  operands-none h a b c = rw (lt-leb w 31 h, a, ne-eqb w 70 b, c) refl
+
+-- and the operators
 pub operands-unary : (o : Unary) → Set-number o → operands-of (unary-word o) ≡ 1
 unfolding operands-of unary-word
 operands-unary Priority k = refl
-operands-unary (Encapsulation h) k =
-    rw (lt-leb (80 + h) 31 (omega arith), le-leb 64 (80 + h) (omega arith), lt-leb (80 + h) 69 (omega arith), ne-eqb (80 + h) 70 (λ e. omega arith), le-leb 80 (80 + h) (omega arith), le-leb (80 + h) 87 (omega arith)) refl
+operands-unary (Encapsulation h) k = operands-set (80 + h) (omega arith) (omega arith)
 
 pub operands-binary : (o : Binary) → operands-of (binary-word o) ≡ 2
-unfolding operands-of binary-word
-operands-binary Choice = refl
-operands-binary Sequence = refl
-operands-binary Merge = refl
-operands-binary LeftMerge = refl
-operands-binary CommunicationMerge = refl
-operands-binary Unless = refl
+operands-binary o = operands-two (binary-word o) (binary-range o .0) (binary-range o .1)
 
 -- and whether it takes two
 pub two-unary : (o : Unary) → Set-number o → takes-two? (unary-word o) ≡ false

@@ -17,7 +17,6 @@ use tables::actions_of;
 use tables::judge_tables;
 
 mod scan;
-mod table;
 mod turns;
 
 // The word of dead stop, δ.
@@ -66,17 +65,20 @@ pub struct Counts {
 pub fn operands(byte: u8) -> u8
     ensures whole { λ r. ⌜ r ≡ operands-of byte ⌝ }
 {
-    table::OPERANDS[byte as usize]
+    match byte {
+        0..=31 => 0,
+        64..=69 => 2,
+        70 => 1,
+        80..=87 => 1,
+        _ => 3,
+    }
 }
 
 // Whether a byte is a sign of two operands.
 pub fn takes_two(word: u8) -> bool
     ensures whole { λ r. ⌜ r ≡ takes-two? word ⌝ }
 {
-    match word {
-        64..=69 => true,
-        _ => false,
-    }
+    operands(word) == 2
 }
 
 // What a byte is under n actions.

@@ -7,7 +7,7 @@ use reference::{checking, texts, unfolding, walks, Refusal};
 
 /// How a call ended: number, steps, words of the plan reached or read. Of a walk, the last is 1
 /// where a finish is reached, and else 0; of a question whether a plan is basic, 1 where it is. Of
-/// a count, the last two are orders and stuck paths.
+/// a count, the last two are orders and stuck paths; of a judgement, both are 0.
 pub type Ended = (u8, usize, usize);
 /// Unfolds: tables, plan, allowance, list, areas A and B.
 pub type Unfold = fn(&[u8], &[u8], u32, &mut [u8], &mut [u8], &mut [u8]) -> Ended;
@@ -35,6 +35,8 @@ pub struct Contender {
     pub fresh_walk: Begin,
     /// Its message to a walk.
     pub walk: Bring,
+    /// Its judgement of tables and plan.
+    pub judge_plan: Ask,
     /// Whether a plan is basic.
     pub is_basic: Ask,
     /// Its count of orders and stuck paths.
@@ -58,6 +60,7 @@ pub const PLAIN: Contender = Contender {
     walk: |tables, plan, marks, message| {
         walked(|finished| plain::walk(tables, plan, marks, message, finished))
     },
+    judge_plan: |tables, plan| judged(plans::judge(tables, plan)),
     is_basic: |tables, plan| read(plain::is_basic(tables, plan).map(usize::from)),
     count_orders: |tables, plan| counted(plain::count_orders(tables, plan)),
 };
@@ -79,6 +82,7 @@ pub const REFERENCE: Contender = Contender {
     walk: |tables, plan, marks, message| {
         walked(|finished| walks::walk(tables, plan, marks, message, finished))
     },
+    judge_plan: |tables, plan| judged(plans::judge(tables, plan)),
     is_basic: |tables, plan| read(plans::judged_basic(tables, plan).map(usize::from)),
     count_orders: |tables, plan| counted(plans::judged_orders(tables, plan)),
 };
@@ -111,6 +115,10 @@ fn read(answer: Result<usize, Refusal>) -> Ended {
         Ok(size) => (0, 0, size),
         Err(refusal) => (refusal.number, 0, 0),
     }
+}
+
+fn judged(answer: Result<(), Refusal>) -> Ended {
+    read(answer.map(|()| 0))
 }
 
 fn counted(answer: Result<Counts, Refusal>) -> Ended {
@@ -154,6 +162,10 @@ pub const PROVED: Option<Contender> = Some(Contender {
         let mut finished = 0;
         let answer = aberulwy::raw::walk(tables, plan, marks, message, &mut finished);
         (answer.number, 0, finished)
+    },
+    judge_plan: |tables, plan| {
+        let answer = aberulwy::raw::judge_plan(tables, plan);
+        (answer.number, 0, 0)
     },
     is_basic: |tables, plan| {
         let answer = aberulwy::raw::is_basic(tables, plan);

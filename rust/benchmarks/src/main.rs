@@ -1,14 +1,15 @@
 //! Prints, as Markdown tables, what a step takes: in the proved library, in an unverified plain
 //! Rust version of the same algorithm, and in Maude; and what a character of a text, a message to
-//! a walk and a count of paths take in the first two. Ends at the first call on which the proved
-//! library and the plain version differ.
+//! a walk, a judgement of a plan and a count of paths take in the first two. Ends at the first call
+//! on which the proved library and the plain version differ.
 
 use benchmarks::contenders::{PLAIN, PROVED, REFERENCE};
 use benchmarks::maude;
 use benchmarks::measuring::{cell, least_times, mean};
 use benchmarks::workloads::{
-    counts, growing_sums, merges_in_growing_areas, merges_of_longer_chains, single_action, sizes,
-    sum_tables, texts, walks, Places, Reading, Replay, Unfolding, Workload, REPLAYED,
+    counts, growing_sums, judgements, merges_in_growing_areas, merges_of_longer_chains,
+    single_action, sizes, sum_tables, texts, walks, Places, Reading, Replay, Unfolding, Workload,
+    REPLAYED,
 };
 use reference::plans::LONGEST_PLAN;
 use reference::tables::{actions, trial_tables};
@@ -26,12 +27,12 @@ fn main() {
     );
     println!("plan of one action. Maude: its own report, for one of many reductions of the plan;");
     println!(
-        "rewrites are the equations that it used for one. The last four tables are of texts, for"
+        "rewrites are the equations that it used for one. The last five tables are of texts, for"
     );
     println!(
-        "a call and for a character, and of messages to walks and counts of paths, for a call"
+        "a call and for a character, and of messages to walks, judgements of plans and counts of"
     );
-    println!("and for a word.");
+    println!("paths, for a call and for a word.");
     match PROVED {
         Some(_) => println!("\nIn each row the proved library and the plain version were first called once each, and\nagreed in every number answered and in every lent byte."),
         None => println!("\nThe proved library is left out: build with `--features archive` to link it."),
@@ -48,6 +49,7 @@ fn main() {
     short_texts();
     long_texts();
     messages();
+    judged_plans();
     counted_paths();
 }
 
@@ -78,8 +80,8 @@ impl Times {
         }
     }
 
-    /// What the steps, the text or the walk alone take: the call less a call without them, which
-    /// take turns.
+    /// What the steps, the text, the walk or the plan's words alone take: the call less a call
+    /// without them, which take turns.
     fn alone(call: &mut impl Workload, mut empty: impl Workload) -> Times {
         let contenders = [Some(PLAIN), PROVED];
         let [plain, proved, empty_plain, empty_proved] = least_times(|index| {
@@ -336,6 +338,41 @@ fn messages() {
     println!("| geometric mean | | | | | {call} | | | | | | | | {alone} |");
 }
 
+fn judged_plans() {
+    println!("\n### Judging: plans as long as can be\n");
+    println!("Nanoseconds for the call, and for a word of the plan: of the call, and of the words");
+    println!(
+        "alone, which is the call less the same call with a plan of one action. The plain version"
+    );
+    println!("judges with the reference's code. Sum: θ of a sum of actions. Deep: ∂ of a chain of");
+    println!(
+        "actions. Blocked: ∂ by one set after the other, of an action. Mixed: a sum of plans of"
+    );
+    println!("all sorts. Random: words of no, one and two operands, drawn at random.\n");
+    println!("| plan | words | call: proved | plain | proved/plain | a word: proved | plain | words alone: proved | plain | proved/plain |");
+    println!("|---|--:|--:|--:|--:|--:|--:|--:|--:|--:|");
+    let mut ratios: [Vec<f64>; 2] = Default::default();
+    for (name, mut judging) in judgements() {
+        let words = judging.plan.len();
+        let call = Times::measure(name, &mut judging);
+        let without_words = judging.of_one_action();
+        let alone = Times::alone(&mut judging, without_words).each(words);
+        let each = call.each(words);
+        println!(
+            "| {name} | {words} | {} | {} | {} | {} |",
+            call.cells(),
+            cell(each.proved),
+            cell(Some(each.plain)),
+            alone.cells(),
+        );
+        for (ratios, times) in ratios.iter_mut().zip([call, alone]) {
+            ratios.extend(times.ratio());
+        }
+    }
+    let [call, alone] = ratios.map(|ratios| cell(mean(&ratios)));
+    println!("| geometric mean | | | | {call} | | | | | {alone} |");
+}
+
 fn counted_paths() {
     println!("\n### Counting: orders and stuck paths\n");
     println!(
@@ -357,7 +394,7 @@ fn counted_paths() {
     let mut ratios: [Vec<f64>; 2] = Default::default();
     for (names, mut counting) in counts() {
         let call = Times::measure(&names, &mut counting);
-        let judging = Times::measure(&names, &mut counting.judging());
+        let judging = Times::measure(&names, &mut counting.whether_basic());
         let [reference] = least_times(|_| {
             counting.run(REFERENCE);
         });

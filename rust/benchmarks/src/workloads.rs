@@ -1,14 +1,16 @@
-//! Calls to measure: plans to unfold, rewritings to replay, texts to read, messages to walks and
-//! paths to count.
+//! Calls to measure: plans to unfold, rewritings to replay, texts to read, messages to walks, plans
+//! to judge and paths to count.
 
-use crate::contenders::{Contender, Ended, PLAIN};
-use reference::plans::{CHOICE, ENCAPSULATION, LONGEST_PLAN, MERGE, PRODUCT, THETA};
+use crate::contenders::{Ask, Contender, Ended, PLAIN};
+use reference::plans::{
+    CHOICE, ENCAPSULATION, LAST_ENCAPSULATION, LONGEST_PLAN, MERGE, PRODUCT, THETA, UNLESS,
+};
 use reference::random::plans::{plan, small_plan};
 use reference::random::Random;
 use reference::runs::reached;
 use reference::stations::read_station;
 use reference::tables::{
-    entry, trial_tables, COMMUNICATION, DEAD_STOP, PRIORITY, SETS, TABLES_LENGTH,
+    actions, entry, trial_tables, COMMUNICATION, DEAD_STOP, PRIORITY, SETS, TABLES_LENGTH,
 };
 use reference::texts::{typed, DEEPEST};
 use reference::unfolding::record;
@@ -608,27 +610,55 @@ pub fn walks() -> Vec<(String, Walking)> {
     plans.into_iter().flat_map(with_marks).collect()
 }
 
-/// A plan whose orders and stuck paths are counted. Nothing is lent.
-pub struct Counting {
+/// Something that is asked of a plan. Nothing is lent.
+pub struct Asking {
+    ask: fn(Contender) -> Ask,
     tables: Vec<u8>,
     /// The plan.
     pub plan: Vec<u8>,
 }
 
-impl Counting {
-    /// The question whether the same plan is basic: it judges as much as the count does, and counts
-    /// nothing.
-    pub fn judging(&self) -> Judging {
-        Judging {
+impl Asking {
+    /// Judges a plan.
+    fn judge(tables: Vec<u8>, plan: Vec<u8>) -> Asking {
+        Asking {
+            ask: |contender| contender.judge_plan,
+            tables,
+            plan,
+        }
+    }
+
+    /// Counts a plan's orders and stuck paths.
+    fn count(tables: Vec<u8>, plan: Vec<u8>) -> Asking {
+        Asking {
+            ask: |contender| contender.count_orders,
+            tables,
+            plan,
+        }
+    }
+
+    /// Asks whether the same plan is basic.
+    pub fn whether_basic(&self) -> Asking {
+        Asking {
+            ask: |contender| contender.is_basic,
             tables: self.tables.clone(),
             plan: self.plan.clone(),
         }
     }
+
+    /// Asks the same of a plan of one action, under the same tables.
+    pub fn of_one_action(&self) -> Asking {
+        Asking {
+            ask: self.ask,
+            tables: self.tables.clone(),
+            plan: vec![1],
+        }
+    }
 }
 
-impl Workload for Counting {
+impl Workload for Asking {
     fn run(&mut self, contender: Contender) -> Ended {
-        (contender.count_orders)(&self.tables, &self.plan)
+        (self.ask)(contender)(&self.tables, &self.plan)
     }
 
     fn lent(&mut self) -> Vec<&mut [u8]> {
@@ -636,20 +666,50 @@ impl Workload for Counting {
     }
 }
 
-/// A plan of which is asked whether it is basic. Nothing is lent.
-pub struct Judging {
-    tables: Vec<u8>,
-    plan: Vec<u8>,
+/// A plan of as many words as there can be, drawn at random: words of no, one and two operands come
+/// alike often, as far as the words left can still end the plan.
+fn random_plan(n: u8) -> Vec<u8> {
+    let random = &mut Random::new(1);
+    let ones: Vec<u8> = (ENCAPSULATION..=LAST_ENCAPSULATION)
+        .chain([THETA])
+        .collect();
+    let mut plan = Vec::with_capacity(LONGEST_PLAN);
+    let mut waiting = 0;
+    for left in (0..LONGEST_PLAN).rev() {
+        // Each of the words left can make one subplan of two, and one must be left in the end.
+        let fits = |&taken: &usize| taken <= waiting && waiting - taken <= left;
+        let fitting: Vec<usize> = (0..=2).filter(fits).collect();
+        let taken = random.pick(&fitting);
+        let word = match taken {
+            0 => random.between(0, n.into()) as u8,
+            1 => random.pick(&ones),
+            _ => random.between(CHOICE.into(), UNLESS.into()) as u8,
+        };
+        plan.push(word);
+        waiting = waiting - taken + 1;
+    }
+    plan
 }
 
-impl Workload for Judging {
-    fn run(&mut self, contender: Contender) -> Ended {
-        (contender.is_basic)(&self.tables, &self.plan)
-    }
-
-    fn lent(&mut self) -> Vec<&mut [u8]> {
-        Vec::new()
-    }
+/// The plans judged, each with its name. All are as long as a plan can be.
+pub fn judgements() -> Vec<(&'static str, Asking)> {
+    let under = |mut plan: Vec<u8>, sign: u8| {
+        plan.push(sign);
+        plan
+    };
+    let sets = (ENCAPSULATION..=LAST_ENCAPSULATION).cycle();
+    let plans = [
+        ("sum", under(long_sum(LONGEST_PLAN - 1), THETA)),
+        ("deep", under(deep_plan(LONGEST_PLAN - 1), ENCAPSULATION)),
+        (
+            "blocked",
+            [1].into_iter().chain(sets).take(LONGEST_PLAN).collect(),
+        ),
+        ("mixed", mixed_plan(actions(&trial_tables()))),
+        ("random", random_plan(actions(&trial_tables()))),
+    ];
+    let judged = |(name, plan)| (name, Asking::judge(trial_tables(), plan));
+    plans.into_iter().map(judged).collect()
 }
 
 /// A sum of so many words, a multiple of 3: of any four summands one is an action before dead stop,
@@ -674,7 +734,7 @@ fn stuck_plan(words: usize) -> Vec<u8> {
 
 /// The counts measured, each with the cells that name it: plan and words. All but that of the bench
 /// are as long as a basic plan can be.
-pub fn counts() -> Vec<(String, Counting)> {
+pub fn counts() -> Vec<(String, Asking)> {
     let longest = LONGEST_PLAN - 1;
     let (tables, plan) = bench();
     let mut plans = vec![("crusted coin", tables, plan)];
@@ -687,7 +747,7 @@ pub fn counts() -> Vec<(String, Counting)> {
     ]);
     let with_cells = |(name, tables, plan): (&str, Vec<u8>, Vec<u8>)| {
         let cells = format!("{name} | {}", plan.len());
-        (cells, Counting { tables, plan })
+        (cells, Asking::count(tables, plan))
     };
     plans.into_iter().map(with_cells).collect()
 }
@@ -791,6 +851,16 @@ mod tests {
     }
 
     #[test]
+    fn judged_plans_are_accepted_and_as_long_as_can_be() {
+        for (name, mut judging) in judgements() {
+            assert_eq!(judging.plan.len(), LONGEST_PLAN, "{name}");
+            assert_eq!(judging.run(PLAIN), (0, 0, 0), "{name}");
+            judging.plan.push(THETA);
+            assert_eq!(judging.run(PLAIN), (11, 0, 0), "{name}");
+        }
+    }
+
+    #[test]
     fn paths_are_counted_in_basic_plans_of_these_lengths() {
         let wanted = [
             ("crusted coin | 45", (6, 0)),
@@ -804,7 +874,7 @@ mod tests {
         assert_eq!(counts.len(), wanted.len());
         for ((cells, mut counting), (name, (orders, stuck))) in counts.into_iter().zip(wanted) {
             assert_eq!(cells, name);
-            assert_eq!(counting.judging().run(PLAIN), (0, 0, 1), "{name}");
+            assert_eq!(counting.whether_basic().run(PLAIN), (0, 0, 1), "{name}");
             assert_eq!(counting.run(PLAIN), (0, orders, stuck), "{name}");
         }
     }

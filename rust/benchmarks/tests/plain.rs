@@ -90,8 +90,18 @@ fn messages_agree_with_the_reference() {
 fn counts_agree_with_the_reference() {
     for (name, mut counting) in counts() {
         assert_eq!(counting.run(PLAIN), counting.run(REFERENCE), "{name}");
-        let mut judging = counting.judging();
+        let mut judging = counting.whether_basic();
         assert_eq!(judging.run(PLAIN), judging.run(REFERENCE), "{name}");
+    }
+}
+
+/// The judgements of the benchmark.
+#[cfg(feature = "archive")]
+#[test]
+fn judgements_agree_with_the_proved_library() {
+    let proved = benchmarks::contenders::PROVED.expect("the archive is linked");
+    for (name, mut judging) in benchmarks::workloads::judgements() {
+        assert_eq!(judging.run(PLAIN), judging.run(proved), "{name}");
     }
 }
 
@@ -102,7 +112,7 @@ fn counts_agree_with_the_proved_library() {
     let proved = benchmarks::contenders::PROVED.expect("the archive is linked");
     for (name, mut counting) in counts() {
         assert_eq!(counting.run(PLAIN), counting.run(proved), "{name}");
-        let mut judging = counting.judging();
+        let mut judging = counting.whether_basic();
         assert_eq!(judging.run(PLAIN), judging.run(proved), "{name}");
     }
 }

@@ -2,14 +2,14 @@
 use Prim.Native.Nat.{ℕ, _≤_, _<_, _+_, _-_}
 use native.Mathlib.Omega.{arith}
 use mathlib.Core.Path.{_≡_, refl, sym}
-use mathlib.Core.Bool.{false, _&&_, and-false}
+use mathlib.Core.Bool.{false, _&&_}
 use lib.Dec.{leb}
 use borrow.Author.Tests.{lt-leb}
 use Rattle.plans.specs.declared.Binary.the-variants.{Choice, Sequence, Merge, LeftMerge, CommunicationMerge, Unless}
 use Rattle.plans.specs.declared.Unary.the-variants.{Priority, Encapsulation}
 use Rattle.plans.specs.declared.Word.the-variants.{One, NoWord}
 use Rattle.plans.specs.Word.{binary-word, unary-word, word-of}
-use Rattle.plans.proofs.Words.{word-action, word-unary, word-binary, sign-none}
+use Rattle.plans.proofs.Words.{word-action, word-unary, word-binary, sign-none, under-range, over-range}
 use Rattle.plans.proofs.classify.Statement.{statement}
 use Rattle.plans.proofs.classify.Tie as tie
 
@@ -18,13 +18,6 @@ module _ (n w : ℕ) (few : n ≤ 31) where
   unfolding unary-word
   by-set low high =
       let e : 80 + (w - 80) ≡ w = omega arith in sym (rw e at (word-unary n few (Encapsulation (w - 80)) (omega arith)))
-
-module _ (w : ℕ) where
-  low-band : w < 80 → leb 80 w && leb w 87 ≡ false
-  low-band h = rw (lt-leb 80 w h) refl
-
-  high-band : 88 ≤ w → leb 80 w && leb w 87 ≡ false
-  high-band h = rw (lt-leb w 87 h) (and-false (leb 80 w))
 
 -- a byte that is no single sign, as the arms of ranges know it
 no-word : (c : tie.At-match-rest) → (c .before .args .n < c .before .args .byte)
@@ -66,16 +59,16 @@ returns-8 : tie.Need-returns-8
 returns-8 c = sym (word-action _ (omega arith) _ (c .if2 .taken))
 
 returns-9 : tie.Need-returns-9
-returns-9 c = no-word (c .before .before) (c .if2 .left) (low-band (c .before .before .before .args .byte) (omega arith))
+returns-9 c = no-word (c .before .before) (c .if2 .left) (under-range 80 87 (c .before .before .before .args .byte) (omega arith))
 
 returns-10 : tie.Need-returns-10
 returns-10 c = by-set _ _ (omega arith) (c .before .if3 .left) (c .if4 .taken)
 
 returns-11 : tie.Need-returns-11
-returns-11 c = no-word (c .before .before) (omega arith) (low-band (c .before .before .before .args .byte) (omega arith))
+returns-11 c = no-word (c .before .before) (omega arith) (under-range 80 87 (c .before .before .before .args .byte) (omega arith))
 
 returns-12 : tie.Need-returns-12
-returns-12 c = no-word (c .before .before .before) (omega arith) (high-band (c .before .before .before .before .args .byte) (omega arith))
+returns-12 c = no-word (c .before .before .before) (omega arith) (over-range 80 87 (c .before .before .before .before .args .byte) (omega arith))
 
 pub classify-spec : {M : Type 1} → statement M
 classify-spec =

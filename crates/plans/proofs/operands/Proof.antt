@@ -1,30 +1,44 @@
--- `plans::operands` meets its contract: the rule is one test at each of the table's 256 entries, which antt computes.
-use mathlib.Core.List.{List}
-use Prim.Native.Nat.{ℕ, _<_}
-use mathlib.Core.Path.{_≡_, refl}
+-- `plans::operands` meets its contract: each arm by the lemma on the bytes of its range.
+use Prim.Native.Nat.{ℕ, _≤_, _<_}
 use native.Mathlib.Omega.{arith}
-use lib.Dec.{T, eqb, eqb→eq}
-use lib.ListN.{getD, length}
-use borrow.Author.Needs.{needs}
+use mathlib.Core.Path.{_≡_, refl, sym}
 use Rattle.plans.specs.Word.{operands-of}
-use Rattle.plans.proofs.Entries.{at, every}
+use Rattle.plans.proofs.Words.{under-range, over-range, operands-action, operands-two, operands-set, operands-none}
 use Rattle.plans.proofs.operands.Statement.{statement}
 use Rattle.plans.proofs.operands.Tie as tie
 
--- an entry of a table that passes the test; `rw` finds the table in the goal, and `tt` is the test passed
-module _ (xs : List ℕ) (k : ℕ) where
-  entry : T (every (λ i x. eqb x (operands-of i)) 0 xs) → k < length xs → getD xs k 0 ≡ operands-of k
-  entry t h = eqb→eq (getD xs k 0) (operands-of k) (at (λ i x. eqb x (operands-of i)) xs t k h)
+-- the bytes before the signs, between them and behind them
+module _ (w : ℕ) where
+  before-signs : 32 ≤ w → w < 64 → operands-of w ≡ 3
+  before-signs h l = operands-none w h (under-range 64 69 w l) (λ e. omega arith) (under-range 80 87 w (omega arith))
 
-array-read-result : tie.Need-array-read-result
-array-read-result c = search needs
+  between-signs : 71 ≤ w → w < 80 → operands-of w ≡ 3
+  between-signs h l = operands-none w (omega arith) (over-range 64 69 w (omega arith)) (λ e. omega arith) (under-range 80 87 w l)
+
+  behind-signs : 88 ≤ w → operands-of w ≡ 3
+  behind-signs h = operands-none w (omega arith) (over-range 64 69 w (omega arith)) (λ e. omega arith) (over-range 80 87 w h)
 
 returns : tie.Need-returns
 unfolding operands-of
-returns c =
-    let t : Unit {0} = tt in
-    let h : c .args .byte < 256 = omega arith in
-    rw entry refl
+returns c = rw (c .match .keys1) refl
+
+returns-2 : tie.Need-returns-2
+returns-2 c = sym (operands-action _ (omega arith))
+
+returns-3 : tie.Need-returns-3
+returns-3 c = sym (operands-two _ (c .before .if2 .left) (omega arith))
+
+returns-4 : tie.Need-returns-4
+returns-4 c = sym (operands-set _ (c .before .if4 .left) (omega arith))
+
+returns-5 : tie.Need-returns-5
+returns-5 c = sym (before-signs _ (omega arith) (omega arith))
+
+returns-6 : tie.Need-returns-6
+returns-6 c = sym (between-signs _ (omega (arith, c .before .before .before .before .match .rest .1)) (omega arith))
+
+returns-7 : tie.Need-returns-7
+returns-7 c = sym (behind-signs _ (omega arith))
 
 pub operands-spec : {M : Type 1} → statement M
-operands-spec = tie.close (tie.spec array-read-result returns)
+operands-spec = tie.close (tie.spec returns returns-2 returns-3 returns-4 returns-5 returns-6 returns-7)

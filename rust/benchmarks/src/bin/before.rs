@@ -1,22 +1,27 @@
-//! Prints, as Markdown tables, what a step takes in an earlier proved library and in the one of
-//! now, measured in turns. Ends at the first call on which they differ.
+//! Prints, as Markdown tables, what a step takes, and what a word to judge, in an earlier proved
+//! library and in the one of now, measured in turns. Ends at the first call on which they differ.
 
 use before::BEFORE;
 use benchmarks::contenders::{Contender, PROVED};
 use benchmarks::measuring::{cell, least_times, mean};
 use benchmarks::workloads::{
-    growing_sums, merges_in_growing_areas, merges_of_longer_chains, sizes, Places, Replay,
-    Workload, REPLAYED,
+    growing_sums, judgements, merges_in_growing_areas, merges_of_longer_chains, sizes, Places,
+    Replay, Workload, REPLAYED,
 };
 
 fn main() {
-    println!("Nanoseconds for a step. Each number is the least of several turns, which the two");
-    println!("libraries took one after the other; they agreed in every number answered and in");
     println!(
-        "every lent byte. Steps alone: the call less the same call with a plan of one action."
+        "Nanoseconds for a step, or for a word. Each number is the least of several turns, which"
+    );
+    println!(
+        "the two libraries took one after the other; they agreed in every number answered and in"
+    );
+    println!(
+        "every lent byte. Steps or words alone: the call less the same call with a plan of one action."
     );
     unfoldings();
     replays();
+    judged_plans();
 }
 
 /// Both libraries.
@@ -33,6 +38,27 @@ fn compare(name: &str, call: &mut impl Workload) {
     assert!(before == now, "{name}: the libraries differ");
 }
 
+/// What one of so many parts takes: of the call, and of the call less one without them.
+fn measure(
+    name: &str,
+    call: &mut impl Workload,
+    mut empty: impl Workload,
+    parts: usize,
+) -> [Pair; 2] {
+    compare(name, call);
+    let [before, now, empty_before, empty_now] = least_times(|index| {
+        let library = libraries()[index % 2];
+        match index {
+            0..2 => call.run(library),
+            _ => empty.run(library),
+        };
+    });
+    [
+        Pair::new(before, now, parts),
+        Pair::new(before - empty_before, now - empty_now, parts),
+    ]
+}
+
 fn unfoldings() {
     println!("\n| unfolding | | | steps | call: before | now | now/before | steps alone: before | now | now/before |");
     println!("|---|--:|--:|--:|--:|--:|--:|--:|--:|--:|");
@@ -42,18 +68,8 @@ fn unfoldings() {
         .map(|(names, merge)| (names.replacen('|', "| 16384 |", 1), merge));
     let (mut calls, mut alone) = (Vec::new(), Vec::new());
     for (names, mut unfolding) in merges.chain(longer).chain(sums) {
-        compare(&names, &mut unfolding);
-        let mut empty = unfolding.without_steps();
-        let times: [f64; 4] = least_times(|index| {
-            let library = libraries()[index % 2];
-            match index {
-                0..2 => unfolding.run(library),
-                _ => empty.run(library),
-            };
-        });
-        let steps = unfolding.steps;
-        let call = Pair::new(times[0], times[1], steps);
-        let steps_alone = Pair::new(times[0] - times[2], times[1] - times[3], steps);
+        let (steps, empty) = (unfolding.steps, unfolding.without_steps());
+        let [call, steps_alone] = measure(&names, &mut unfolding, empty, steps);
         println!(
             "| {names} | {steps} | {} | {} |",
             call.cells(),
@@ -87,6 +103,25 @@ fn replays() {
         }
     }
     println!("| geometric mean | | | | | {} |", cell(mean(&ratios)));
+}
+
+fn judged_plans() {
+    println!("\n| judging | words | call: before | now | now/before | words alone: before | now | now/before |");
+    println!("|---|--:|--:|--:|--:|--:|--:|--:|");
+    let (mut calls, mut alone) = (Vec::new(), Vec::new());
+    for (name, mut judging) in judgements() {
+        let (words, empty) = (judging.plan.len(), judging.of_one_action());
+        let [call, words_alone] = measure(name, &mut judging, empty, words);
+        println!(
+            "| {name} | {words} | {} | {} |",
+            call.cells(),
+            words_alone.cells()
+        );
+        calls.push(call.ratio());
+        alone.push(words_alone.ratio());
+    }
+    let [calls, alone] = [calls, alone].map(|ratios| cell(mean(&ratios)));
+    println!("| geometric mean | | | | {calls} | | | {alone} |");
 }
 
 /// What one of so many parts takes, before and now.
@@ -153,6 +188,14 @@ mod before {
             size: *mut usize,
             place: *mut usize,
         ) -> u8;
+
+        fn before_judge_plan(
+            tables: *const u8,
+            tables_len: usize,
+            plan: *const u8,
+            plan_len: usize,
+            place: *mut usize,
+        ) -> u8;
     }
 
     pub const BEFORE: Contender = Contender {
@@ -203,6 +246,18 @@ mod before {
         read_text: |_, _, _| panic!("texts are not read by the earlier library"),
         fresh_walk: |_, _, _| panic!("walks are not begun by the earlier library"),
         walk: |_, _, _, _| panic!("walks are not followed by the earlier library"),
+        judge_plan: |tables, plan| {
+            // SAFETY: as above.
+            ended(|_, _, place| unsafe {
+                before_judge_plan(
+                    tables.as_ptr(),
+                    tables.len(),
+                    plan.as_ptr(),
+                    plan.len(),
+                    place,
+                )
+            })
+        },
         is_basic: |_, _| panic!("plans are not asked about in the earlier library"),
         count_orders: |_, _| panic!("paths are not counted by the earlier library"),
     };
