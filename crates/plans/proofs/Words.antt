@@ -65,7 +65,7 @@ sign-unary : (o : Unary) → Set-number o → sign-of (unary-word o) ≡ One o
 unfolding sign-of unary-word
 sign-unary Priority k = refl
 sign-unary (Encapsulation h) k =
-    rw (sign-high (80 + h) (omega arith), ne-eqb (80 + h) 70 (λ e. omega arith), le-leb 80 (80 + h) (omega arith), le-leb (80 + h) 87 (omega arith))
+    rw (sign-high (80 + h) (omega arith), ne-eqb (80 + h) 70 (λ e. omega arith), in-range 80 87 (80 + h) (omega arith) (omega arith))
     (ap (λ m. One (Encapsulation m)) (omega arith))
 
 module _ (n : ℕ) (few : n ≤ 31) where

@@ -2,16 +2,14 @@
 //! word before its count is asked for: that its count is 3 is proved, and no call shows it.
 
 use aberulwy::raw::{judge_plan, Judged};
-use reference::tables::{entry, PRIORITY, TABLES_LENGTH};
-
-/// The most actions that tables can have; under these, every byte from 0 to 31 is a word.
-const MOST_ACTIONS: u8 = 31;
+use reference::tables::{entry, MOST_ACTIONS, PRIORITY, TABLES_LENGTH};
 
 /// The table of document 01, by runs of equal counts: the count, and for how many bytes. A byte of
 /// count 3 is no word.
 const TABLE: [(usize, usize); 7] = [(0, 32), (3, 32), (2, 6), (1, 1), (3, 9), (1, 8), (3, 168)];
 
-/// Tables of as many actions as there can be, without communication, and 0 below all.
+/// Tables of as many actions as there can be, so that every byte from 0 to 31 is a word; without
+/// communication, and 0 below all.
 fn tables() -> Vec<u8> {
     let mut tables = vec![0; TABLES_LENGTH];
     tables[0] = MOST_ACTIONS;

@@ -260,6 +260,30 @@ fn short_texts() {
     }
 }
 
+/// Prints the row of a call that has so many parts, characters or words: its first cells, the call,
+/// one part of it, and one part of the call less one without them. Its ratios go to the others.
+fn row_by_parts(
+    cells: &str,
+    mut call: impl Workload,
+    without_parts: impl Workload,
+    parts: usize,
+    ratios: &mut [Vec<f64>; 2],
+) {
+    let whole = Times::measure(cells, &mut call);
+    let alone = Times::alone(&mut call, without_parts).each(parts);
+    let each = whole.each(parts);
+    println!(
+        "| {cells} | {} | {} | {} | {} |",
+        whole.cells(),
+        cell(each.proved),
+        cell(Some(each.plain)),
+        alone.cells(),
+    );
+    for (ratios, times) in ratios.iter_mut().zip([whole, alone]) {
+        ratios.extend(times.ratio());
+    }
+}
+
 fn long_texts() {
     println!("\n### Reading texts: plans as long as can be\n");
     println!("Nanoseconds for the call, and for a character: of the call, and of the text alone,");
@@ -275,20 +299,9 @@ fn long_texts() {
     for (name, mut reading) in texts() {
         let characters = reading.text.len();
         let (_, _, words) = reading.run(PLAIN);
-        let call = Times::measure(name, &mut reading);
+        let cells = format!("{name} | {characters} | {words}");
         let without_text = reading.without_text();
-        let alone = Times::alone(&mut reading, without_text).each(characters);
-        let each = call.each(characters);
-        println!(
-            "| {name} | {characters} | {words} | {} | {} | {} | {} |",
-            call.cells(),
-            cell(each.proved),
-            cell(Some(each.plain)),
-            alone.cells(),
-        );
-        for (ratios, times) in ratios.iter_mut().zip([call, alone]) {
-            ratios.extend(times.ratio());
-        }
+        row_by_parts(&cells, reading, without_text, characters, &mut ratios);
     }
     let [call, alone] = ratios.map(|ratios| cell(mean(&ratios)));
     println!("| geometric mean | | | | | {call} | | | | | {alone} |");
@@ -352,22 +365,11 @@ fn judged_plans() {
     println!("| plan | words | call: proved | plain | proved/plain | a word: proved | plain | words alone: proved | plain | proved/plain |");
     println!("|---|--:|--:|--:|--:|--:|--:|--:|--:|--:|");
     let mut ratios: [Vec<f64>; 2] = Default::default();
-    for (name, mut judging) in judgements() {
+    for (name, judging) in judgements() {
         let words = judging.plan.len();
-        let call = Times::measure(name, &mut judging);
+        let cells = format!("{name} | {words}");
         let without_words = judging.of_one_action();
-        let alone = Times::alone(&mut judging, without_words).each(words);
-        let each = call.each(words);
-        println!(
-            "| {name} | {words} | {} | {} | {} | {} |",
-            call.cells(),
-            cell(each.proved),
-            cell(Some(each.plain)),
-            alone.cells(),
-        );
-        for (ratios, times) in ratios.iter_mut().zip([call, alone]) {
-            ratios.extend(times.ratio());
-        }
+        row_by_parts(&cells, judging, without_words, words, &mut ratios);
     }
     let [call, alone] = ratios.map(|ratios| cell(mean(&ratios)));
     println!("| geometric mean | | | | {call} | | | | | {alone} |");

@@ -637,7 +637,7 @@ impl Asking {
         }
     }
 
-    /// Asks whether the same plan is basic.
+    /// Asks whether the same plan is basic: it judges as much as a count does, and counts nothing.
     pub fn whether_basic(&self) -> Asking {
         Asking {
             ask: |contender| contender.is_basic,

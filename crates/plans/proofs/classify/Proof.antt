@@ -1,7 +1,7 @@
 -- `plans::classify` meets its contract: each arm by the lemma on the bytes that it takes.
 use Prim.Native.Nat.{ℕ, _≤_, _<_, _+_, _-_}
 use native.Mathlib.Omega.{arith}
-use mathlib.Core.Path.{_≡_, refl, sym}
+use mathlib.Core.Path.{_≡_, sym}
 use mathlib.Core.Bool.{false, _&&_}
 use lib.Dec.{leb}
 use borrow.Author.Tests.{lt-leb}

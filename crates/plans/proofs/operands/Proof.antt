@@ -1,4 +1,4 @@
--- `plans::operands` meets its contract: each arm by the lemma on the bytes of its range.
+-- `plans::operands` meets its contract: byte 70 by computation, each other arm by the lemma on the bytes of its range.
 use Prim.Native.Nat.{ℕ, _≤_, _<_}
 use native.Mathlib.Omega.{arith}
 use mathlib.Core.Path.{_≡_, refl, sym}

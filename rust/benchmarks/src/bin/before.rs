@@ -1,27 +1,32 @@
-//! Prints, as Markdown tables, what a step takes, and what a word to judge, in an earlier proved
-//! library and in the one of now, measured in turns. Ends at the first call on which they differ.
+//! Prints, as Markdown tables, what a step takes, a word of a plan or a character of a text, in an
+//! earlier proved library and in the one of now, measured in turns. Ends at the first call on which
+//! they differ.
 
 use before::BEFORE;
 use benchmarks::contenders::{Contender, PROVED};
 use benchmarks::measuring::{cell, least_times, mean};
 use benchmarks::workloads::{
-    growing_sums, judgements, merges_in_growing_areas, merges_of_longer_chains, sizes, Places,
-    Replay, Workload, REPLAYED,
+    counts, growing_sums, judgements, merges_in_growing_areas, merges_of_longer_chains, sizes,
+    texts, walks, Places, Replay, Workload, REPLAYED,
 };
 
 fn main() {
     println!(
-        "Nanoseconds for a step, or for a word. Each number is the least of several turns, which"
+        "Nanoseconds for a step, a word of a plan or a character of a text. Each number is the least"
     );
     println!(
-        "the two libraries took one after the other; they agreed in every number answered and in"
+        "of several turns, which the two libraries took one after the other; they agreed in every"
     );
     println!(
-        "every lent byte. Steps or words alone: the call less the same call with a plan of one action."
+        "number answered and in every lent byte. Steps or words alone: the call less the same call"
     );
+    println!("with a plan of one action.");
     unfoldings();
     replays();
+    read_texts();
+    messages();
     judged_plans();
+    questions();
 }
 
 /// Both libraries.
@@ -38,8 +43,17 @@ fn compare(name: &str, call: &mut impl Workload) {
     assert!(before == now, "{name}: the libraries differ");
 }
 
+/// What one of so many parts of a call takes.
+fn measure(name: &str, call: &mut impl Workload, parts: usize) -> Pair {
+    compare(name, call);
+    let [before, now] = least_times(|index| {
+        call.run(libraries()[index]);
+    });
+    Pair::new(before, now, parts)
+}
+
 /// What one of so many parts takes: of the call, and of the call less one without them.
-fn measure(
+fn measure_alone(
     name: &str,
     call: &mut impl Workload,
     mut empty: impl Workload,
@@ -69,7 +83,7 @@ fn unfoldings() {
     let (mut calls, mut alone) = (Vec::new(), Vec::new());
     for (names, mut unfolding) in merges.chain(longer).chain(sums) {
         let (steps, empty) = (unfolding.steps, unfolding.without_steps());
-        let [call, steps_alone] = measure(&names, &mut unfolding, empty, steps);
+        let [call, steps_alone] = measure_alone(&names, &mut unfolding, empty, steps);
         println!(
             "| {names} | {steps} | {} | {} |",
             call.cells(),
@@ -92,15 +106,37 @@ fn replays() {
     ] {
         for words in sizes() {
             let mut replay = Replay::new(words, places, most);
-            compare(name, &mut replay);
             let (_, steps, size) = replay.run(BEFORE);
-            let [before, now] = least_times(|index| {
-                replay.run(libraries()[index]);
-            });
-            let call = Pair::new(before, now, steps);
+            let call = measure(name, &mut replay, steps);
             println!("| {name} | {size} | {steps} | {} |", call.cells());
             ratios.push(call.ratio());
         }
+    }
+    println!("| geometric mean | | | | | {} |", cell(mean(&ratios)));
+}
+
+fn read_texts() {
+    println!("\n| text | characters | call: before | now | now/before |");
+    println!("|---|--:|--:|--:|--:|");
+    let mut ratios = Vec::new();
+    for (name, mut reading) in texts() {
+        let characters = reading.text.len();
+        let call = measure(name, &mut reading, characters);
+        println!("| {name} | {characters} | {} |", call.cells());
+        ratios.push(call.ratio());
+    }
+    println!("| geometric mean | | | | {} |", cell(mean(&ratios)));
+}
+
+fn messages() {
+    println!("\n| walk | words | marks | call: before | now | now/before |");
+    println!("|---|--:|---|--:|--:|--:|");
+    let mut ratios = Vec::new();
+    for (names, mut walking) in walks() {
+        let words = walking.plan.len();
+        let call = measure(&names, &mut walking, words);
+        println!("| {names} | {} |", call.cells());
+        ratios.push(call.ratio());
     }
     println!("| geometric mean | | | | | {} |", cell(mean(&ratios)));
 }
@@ -111,7 +147,7 @@ fn judged_plans() {
     let (mut calls, mut alone) = (Vec::new(), Vec::new());
     for (name, mut judging) in judgements() {
         let (words, empty) = (judging.plan.len(), judging.of_one_action());
-        let [call, words_alone] = measure(name, &mut judging, empty, words);
+        let [call, words_alone] = measure_alone(name, &mut judging, empty, words);
         println!(
             "| {name} | {words} | {} | {} |",
             call.cells(),
@@ -122,6 +158,22 @@ fn judged_plans() {
     }
     let [calls, alone] = [calls, alone].map(|ratios| cell(mean(&ratios)));
     println!("| geometric mean | | | | {calls} | | | {alone} |");
+}
+
+fn questions() {
+    println!("\n| plan | words | `is_basic`: before | now | now/before | `count_orders`: before | now | now/before |");
+    println!("|---|--:|--:|--:|--:|--:|--:|--:|");
+    let (mut basics, mut orders) = (Vec::new(), Vec::new());
+    for (names, mut counting) in counts() {
+        let words = counting.plan.len();
+        let basic = measure(&names, &mut counting.whether_basic(), words);
+        let counted = measure(&names, &mut counting, words);
+        println!("| {names} | {} | {} |", basic.cells(), counted.cells());
+        basics.push(basic.ratio());
+        orders.push(counted.ratio());
+    }
+    let [basics, orders] = [basics, orders].map(|ratios| cell(mean(&ratios)));
+    println!("| geometric mean | | | | {basics} | | | {orders} |");
 }
 
 /// What one of so many parts takes, before and now.
@@ -189,11 +241,64 @@ mod before {
             place: *mut usize,
         ) -> u8;
 
+        fn before_read_text(
+            tables: *const u8,
+            tables_len: usize,
+            text: *const u8,
+            text_len: usize,
+            plan: *mut u8,
+            plan_len: usize,
+            size: *mut usize,
+            place: *mut usize,
+        ) -> u8;
+
+        fn before_fresh_walk(
+            tables: *const u8,
+            tables_len: usize,
+            plan: *const u8,
+            plan_len: usize,
+            marks: *mut u8,
+            marks_len: usize,
+            finished: *mut usize,
+            place: *mut usize,
+        ) -> u8;
+
+        fn before_walk(
+            tables: *const u8,
+            tables_len: usize,
+            plan: *const u8,
+            plan_len: usize,
+            marks: *mut u8,
+            marks_len: usize,
+            message: u8,
+            finished: *mut usize,
+            place: *mut usize,
+        ) -> u8;
+
         fn before_judge_plan(
             tables: *const u8,
             tables_len: usize,
             plan: *const u8,
             plan_len: usize,
+            place: *mut usize,
+        ) -> u8;
+
+        fn before_is_basic(
+            tables: *const u8,
+            tables_len: usize,
+            plan: *const u8,
+            plan_len: usize,
+            basic: *mut usize,
+            place: *mut usize,
+        ) -> u8;
+
+        fn before_count_orders(
+            tables: *const u8,
+            tables_len: usize,
+            plan: *const u8,
+            plan_len: usize,
+            orders: *mut usize,
+            stuck: *mut usize,
             place: *mut usize,
         ) -> u8;
     }
@@ -243,9 +348,52 @@ mod before {
                 )
             })
         },
-        read_text: |_, _, _| panic!("texts are not read by the earlier library"),
-        fresh_walk: |_, _, _| panic!("walks are not begun by the earlier library"),
-        walk: |_, _, _, _| panic!("walks are not followed by the earlier library"),
+        read_text: |tables, text, area| {
+            // SAFETY: as above.
+            ended(|_, size, place| unsafe {
+                before_read_text(
+                    tables.as_ptr(),
+                    tables.len(),
+                    text.as_ptr(),
+                    text.len(),
+                    area.as_mut_ptr(),
+                    area.len(),
+                    size,
+                    place,
+                )
+            })
+        },
+        fresh_walk: |tables, plan, marks| {
+            // SAFETY: as above.
+            ended(|_, finished, place| unsafe {
+                before_fresh_walk(
+                    tables.as_ptr(),
+                    tables.len(),
+                    plan.as_ptr(),
+                    plan.len(),
+                    marks.as_mut_ptr(),
+                    marks.len(),
+                    finished,
+                    place,
+                )
+            })
+        },
+        walk: |tables, plan, marks, message| {
+            // SAFETY: as above.
+            ended(|_, finished, place| unsafe {
+                before_walk(
+                    tables.as_ptr(),
+                    tables.len(),
+                    plan.as_ptr(),
+                    plan.len(),
+                    marks.as_mut_ptr(),
+                    marks.len(),
+                    message,
+                    finished,
+                    place,
+                )
+            })
+        },
         judge_plan: |tables, plan| {
             // SAFETY: as above.
             ended(|_, _, place| unsafe {
@@ -258,14 +406,39 @@ mod before {
                 )
             })
         },
-        is_basic: |_, _| panic!("plans are not asked about in the earlier library"),
-        count_orders: |_, _| panic!("paths are not counted by the earlier library"),
+        is_basic: |tables, plan| {
+            // SAFETY: as above.
+            ended(|_, basic, place| unsafe {
+                before_is_basic(
+                    tables.as_ptr(),
+                    tables.len(),
+                    plan.as_ptr(),
+                    plan.len(),
+                    basic,
+                    place,
+                )
+            })
+        },
+        count_orders: |tables, plan| {
+            // SAFETY: as above.
+            ended(|orders, stuck, place| unsafe {
+                before_count_orders(
+                    tables.as_ptr(),
+                    tables.len(),
+                    plan.as_ptr(),
+                    plan.len(),
+                    orders,
+                    stuck,
+                    place,
+                )
+            })
+        },
     };
 
-    /// Makes a call that sets steps, size and place.
+    /// Makes a call that sets at most two numbers, those of `Ended`, and a place.
     fn ended(call: impl FnOnce(&mut usize, &mut usize, &mut usize) -> u8) -> Ended {
-        let (mut steps, mut size, mut place) = (0, 0, 0);
-        let number = call(&mut steps, &mut size, &mut place);
-        (number, steps, size)
+        let (mut first, mut second, mut place) = (0, 0, 0);
+        let number = call(&mut first, &mut second, &mut place);
+        (number, first, second)
     }
 }
