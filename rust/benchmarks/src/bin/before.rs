@@ -73,33 +73,59 @@ fn measure_alone(
     ]
 }
 
+/// A table that is being printed: in each row the cells that name it, then pairs of times.
+struct Table<const PAIRS: usize> {
+    /// How many cells name a row.
+    names: usize,
+    /// The ratios of each pair, by rows.
+    ratios: [Vec<f64>; PAIRS],
+}
+
+impl<const PAIRS: usize> Table<PAIRS> {
+    /// Prints the head: what the cells that name a row are, and what is measured.
+    fn begin(names: &str, measured: [&str; PAIRS]) -> Table<PAIRS> {
+        let heads = measured.map(|times| format!("{times}: before | now | now/before"));
+        println!("\n| {names} | {} |", heads.join(" | "));
+        let names = names.split('|').count();
+        println!("|---|{}", "--:|".repeat(names - 1 + 3 * PAIRS));
+        Table {
+            names,
+            ratios: [const { Vec::new() }; PAIRS],
+        }
+    }
+
+    fn row(&mut self, names: &str, times: [Pair; PAIRS]) {
+        let cells = times.each_ref().map(Pair::cells);
+        println!("| {names} | {} |", cells.join(" | "));
+        for (ratios, times) in self.ratios.iter_mut().zip(times) {
+            ratios.push(times.ratio());
+        }
+    }
+
+    /// Prints the geometric means of the ratios, each below them.
+    fn end(self) {
+        let blank = " |".repeat(self.names - 1 + 2);
+        let means = self.ratios.map(|ratios| cell(mean(&ratios)));
+        println!("| geometric mean |{blank} {} |", means.join(" | | | "));
+    }
+}
+
 fn unfoldings() {
-    println!("\n| unfolding | | | steps | call: before | now | now/before | steps alone: before | now | now/before |");
-    println!("|---|--:|--:|--:|--:|--:|--:|--:|--:|--:|");
+    let mut table = Table::begin("unfolding | | | steps", ["call", "steps alone"]);
     let sums = growing_sums().map(|(names, sum)| (format!("sum | {names}"), sum));
     let merges = merges_in_growing_areas().map(|(names, merge)| (format!("{names} | 2"), merge));
     let longer = merges_of_longer_chains()
         .map(|(names, merge)| (names.replacen('|', "| 16384 |", 1), merge));
-    let (mut calls, mut alone) = (Vec::new(), Vec::new());
     for (names, mut unfolding) in merges.chain(longer).chain(sums) {
         let (steps, empty) = (unfolding.steps, unfolding.without_steps());
-        let [call, steps_alone] = measure_alone(&names, &mut unfolding, empty, steps);
-        println!(
-            "| {names} | {steps} | {} | {} |",
-            call.cells(),
-            steps_alone.cells()
-        );
-        calls.push(call.ratio());
-        alone.push(steps_alone.ratio());
+        let times = measure_alone(&names, &mut unfolding, empty, steps);
+        table.row(&format!("{names} | {steps}"), times);
     }
-    let [calls, alone] = [calls, alone].map(|ratios| cell(mean(&ratios)));
-    println!("| geometric mean | | | | | | {calls} | | | {alone} |");
+    table.end();
 }
 
 fn replays() {
-    println!("\n| checking | words | steps | call: before | now | now/before |");
-    println!("|---|--:|--:|--:|--:|--:|");
-    let mut ratios = Vec::new();
+    let mut table = Table::begin("checking | words | steps", ["call"]);
     for (name, places, most) in [
         ("near", Places::Near, REPLAYED.0),
         ("far", Places::Far, REPLAYED.1),
@@ -107,73 +133,51 @@ fn replays() {
         for words in sizes() {
             let mut replay = Replay::new(words, places, most);
             let (_, steps, size) = replay.run(BEFORE);
-            let call = measure(name, &mut replay, steps);
-            println!("| {name} | {size} | {steps} | {} |", call.cells());
-            ratios.push(call.ratio());
+            let names = format!("{name} | {size} | {steps}");
+            table.row(&names, [measure(&names, &mut replay, steps)]);
         }
     }
-    println!("| geometric mean | | | | | {} |", cell(mean(&ratios)));
+    table.end();
 }
 
 fn read_texts() {
-    println!("\n| text | characters | call: before | now | now/before |");
-    println!("|---|--:|--:|--:|--:|");
-    let mut ratios = Vec::new();
+    let mut table = Table::begin("text | characters", ["call"]);
     for (name, mut reading) in texts() {
         let characters = reading.text.len();
-        let call = measure(name, &mut reading, characters);
-        println!("| {name} | {characters} | {} |", call.cells());
-        ratios.push(call.ratio());
+        let names = format!("{name} | {characters}");
+        table.row(&names, [measure(&names, &mut reading, characters)]);
     }
-    println!("| geometric mean | | | | {} |", cell(mean(&ratios)));
+    table.end();
 }
 
 fn messages() {
-    println!("\n| walk | words | marks | call: before | now | now/before |");
-    println!("|---|--:|---|--:|--:|--:|");
-    let mut ratios = Vec::new();
+    let mut table = Table::begin("walk | words | marks", ["call"]);
     for (names, mut walking) in walks() {
         let words = walking.plan.len();
-        let call = measure(&names, &mut walking, words);
-        println!("| {names} | {} |", call.cells());
-        ratios.push(call.ratio());
+        table.row(&names, [measure(&names, &mut walking, words)]);
     }
-    println!("| geometric mean | | | | | {} |", cell(mean(&ratios)));
+    table.end();
 }
 
 fn judged_plans() {
-    println!("\n| judging | words | call: before | now | now/before | words alone: before | now | now/before |");
-    println!("|---|--:|--:|--:|--:|--:|--:|--:|");
-    let (mut calls, mut alone) = (Vec::new(), Vec::new());
+    let mut table = Table::begin("judging | words", ["call", "words alone"]);
     for (name, mut judging) in judgements() {
         let (words, empty) = (judging.plan.len(), judging.of_one_action());
-        let [call, words_alone] = measure_alone(name, &mut judging, empty, words);
-        println!(
-            "| {name} | {words} | {} | {} |",
-            call.cells(),
-            words_alone.cells()
-        );
-        calls.push(call.ratio());
-        alone.push(words_alone.ratio());
+        let times = measure_alone(name, &mut judging, empty, words);
+        table.row(&format!("{name} | {words}"), times);
     }
-    let [calls, alone] = [calls, alone].map(|ratios| cell(mean(&ratios)));
-    println!("| geometric mean | | | | {calls} | | | {alone} |");
+    table.end();
 }
 
 fn questions() {
-    println!("\n| plan | words | `is_basic`: before | now | now/before | `count_orders`: before | now | now/before |");
-    println!("|---|--:|--:|--:|--:|--:|--:|--:|");
-    let (mut basics, mut orders) = (Vec::new(), Vec::new());
+    let mut table = Table::begin("plan | words", ["`is_basic`", "`count_orders`"]);
     for (names, mut counting) in counts() {
         let words = counting.plan.len();
         let basic = measure(&names, &mut counting.whether_basic(), words);
         let counted = measure(&names, &mut counting, words);
-        println!("| {names} | {} | {} |", basic.cells(), counted.cells());
-        basics.push(basic.ratio());
-        orders.push(counted.ratio());
+        table.row(&names, [basic, counted]);
     }
-    let [basics, orders] = [basics, orders].map(|ratios| cell(mean(&ratios)));
-    println!("| geometric mean | | | | {basics} | | | {orders} |");
+    table.end();
 }
 
 /// What one of so many parts takes, before and now.
