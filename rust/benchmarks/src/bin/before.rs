@@ -151,10 +151,12 @@ fn read_texts() {
 }
 
 fn messages() {
-    let mut table = Table::begin("walk | words | marks", ["call"]);
+    let mut table = Table::begin("walk | words | marks", ["`fresh_walk`", "`walk`"]);
     for (names, mut walking) in walks() {
         let words = walking.plan.len();
-        table.row(&names, [measure(&names, &mut walking, words)]);
+        let begun = measure(&names, &mut walking.beginning(), words);
+        let taken = measure(&names, &mut walking, words);
+        table.row(&names, [begun, taken]);
     }
     table.end();
 }
