@@ -11,9 +11,9 @@
  * What it may write to must not overlap anything else handed to it, and no pointer may be null, even where its length is 0.
  *
  * Stack: allow 640 KiB for aberulwy_list_station, 512 KiB for aberulwy_unfold and aberulwy_unfold_checked, 192 KiB for aberulwy_read_text, 128 KiB
- * for aberulwy_check_rewriting and aberulwy_walk, and 64 KiB for each other call. Measured in threads on x86-64 Linux, aberulwy_list_station needs
- * 486 KiB, aberulwy_unfold and aberulwy_unfold_checked 354, aberulwy_read_text 131 (for a text 200 brackets deep; no text goes deeper),
- * aberulwy_check_rewriting and aberulwy_walk 86, and the others at most 32. Nothing is allocated.
+ * for aberulwy_check_rewriting and aberulwy_walk, 96 KiB for aberulwy_precedes, and 64 KiB for each other call. Measured in threads on x86-64 Linux,
+ * aberulwy_list_station needs 486 KiB, aberulwy_unfold and aberulwy_unfold_checked 354, aberulwy_read_text 131 (for a text 200 brackets deep; no text
+ * goes deeper), aberulwy_check_rewriting and aberulwy_walk 86, aberulwy_precedes 54, and the others at most 32. Nothing is allocated.
  *
  * The archive is made by `rt staticlib aberulwy_c`: target/staticlib/libaberulwy_c.a.
  */
@@ -23,7 +23,7 @@
 #include <stddef.h>
 #include <stdint.h>
 
-#define ABERULWY_VERSION "0.8.1"
+#define ABERULWY_VERSION "0.9.0"
 
 #ifdef __cplusplus
 extern "C" {
@@ -102,6 +102,13 @@ uint8_t aberulwy_fresh_walk(const uint8_t *tables, size_t tables_len, const uint
  * that is proved. */
 uint8_t aberulwy_walk(const uint8_t *tables, size_t tables_len, const uint8_t *plan, size_t plan_len, uint8_t *marks, size_t marks_len,
                       uint8_t message, size_t *finished, size_t *place);
+
+/* Asks whether on every path of a basic plan each appearance of action second has action first somewhere before it; paths into a dead stop and
+ * beginnings of paths count too. Returns 0, and then *yes is 1 where it is so; else *yes is 0, and *at is the least place (the index of the word) of an
+ * appearance that has none before it on its path. *at is 0 but under no. Or returns 1 to 8, 11 to 14, then 73 where the two are equal or one of them is
+ * outside 1 to n, then 70 where the plan is not basic. */
+uint8_t aberulwy_precedes(const uint8_t *tables, size_t tables_len, const uint8_t *plan, size_t plan_len, uint8_t first, uint8_t second, size_t *yes,
+                          size_t *at, size_t *place);
 
 /* Lists a station file: everything that the program prints for it, refusals too. Returns 0, and then *size is the text's length, and zeros stand
  * behind it; or returns 1 where the area is too short for it: it then keeps its bytes, and *size is 0. No listing is longer than 93,000 bytes. */

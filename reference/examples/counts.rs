@@ -3,6 +3,7 @@
 //! `counts [cases] [seed]`
 
 use reference::random::cases::{check_case, own_rewriting_case, station_case, unfold_case};
+use reference::random::precedence::precedence_case;
 use reference::random::texts::text_case;
 use reference::random::walks::{fresh_walk_case, walk_case};
 use reference::random::Random;
@@ -20,13 +21,14 @@ fn main() {
     let mut number = |default| given.next().map_or(default, |text| text.parse().unwrap());
     let (cases, seed) = (number(20_000), number(1));
     let mut random = Random::new(seed);
-    let kinds: [(&str, Kind); 6] = [
+    let kinds: [(&str, Kind); 7] = [
         ("unfolding, then its own rewriting checked", unfolding),
         ("checking", checking),
         ("station files", stations),
         ("texts", texts),
         ("fresh walks", fresh_walks),
         ("messages", messages),
+        ("precedence", precedence),
     ];
     for (name, kind) in kinds {
         let (counts, slowest, time) = count(cases, &mut random, kind);
@@ -80,6 +82,10 @@ fn fresh_walks(random: &mut Random) -> u8 {
 
 fn messages(random: &mut Random) -> u8 {
     number(walk_case(random).run().answer)
+}
+
+fn precedence(random: &mut Random) -> u8 {
+    number(precedence_case(random).run())
 }
 
 /// The number of a refusal, 0 where there is none.

@@ -6,9 +6,9 @@
 //! implementation can be compared with it byte for byte. Each item quotes the
 //! sentence that it renders. `docs/FORMATS.md` and `docs/NUMBERS.md` tell the
 //! bytes and the numbers. [`texts`] was written from request 101 of the customer's
-//! change requests, [`walks`] from request 102, and the counts of [`plans`] and the
-//! program's first line from request 103; [`descriptions`], [`reading`] and [`random`] are
-//! this folder's own.
+//! change requests, [`walks`] from request 102, the counts of [`plans`] and the program's
+//! first line from request 103, and [`precedence`] from request 105; [`descriptions`],
+//! [`reading`] and [`random`] are this folder's own.
 
 #![forbid(unsafe_code)]
 #![warn(missing_docs)]
@@ -19,6 +19,7 @@ pub mod filter;
 pub mod laws;
 pub mod own;
 pub mod plans;
+pub mod precedence;
 pub mod random;
 pub mod reading;
 pub mod refusals;

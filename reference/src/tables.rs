@@ -20,6 +20,11 @@ pub fn actions(tables: &[u8]) -> u8 {
     tables[0]
 }
 
+/// Whether a byte is "an action outside 1 to n" (requests 102 and 105), as dead stop is.
+pub fn outside(tables: &[u8], action: u8) -> bool {
+    !(1..=actions(tables)).contains(&action)
+}
+
 /// "Then 1,024 bytes of communication: entry 32 × a + b is a|b."
 pub fn communication(tables: &[u8], a: u8, b: u8) -> u8 {
     tables[COMMUNICATION + entry(a, b)]

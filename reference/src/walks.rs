@@ -22,7 +22,7 @@
 
 use crate::plans::{is_basic, judge, CHOICE, PRODUCT};
 use crate::refusals::Refusal;
-use crate::tables::{actions, DEAD_STOP};
+use crate::tables::{outside, DEAD_STOP};
 use std::collections::BTreeSet;
 use std::mem::replace;
 
@@ -86,10 +86,10 @@ fn judge_progress(tables: &[u8], plan: &[u8], marks: &[u8]) -> Result<(), Refusa
 
 /// "an action outside 1 to n gets 71".
 fn judge_message(tables: &[u8], message: u8) -> Result<(), Refusal> {
-    if (1..=actions(tables)).contains(&message) {
-        Ok(())
-    } else {
+    if outside(tables, message) {
         Err(Refusal::nowhere(71))
+    } else {
+        Ok(())
     }
 }
 

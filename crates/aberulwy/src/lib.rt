@@ -9,6 +9,7 @@
 // `_≡_ {A = R} x y` is `x ≡ y` between records of type R.
 use checking::Checked;
 use plans::Counts;
+use precedence::Precedence;
 use refusals::Judgement;
 use refusals::Refusal;
 use stations::StationRead;
@@ -29,6 +30,8 @@ ghost use Rattle.texts.specs.Text.{text-outcome, text-report, text-reported, Te
 ghost use Rattle.texts.specs.Claims.{TextClaims};
 ghost use Rattle.walks.specs.Outcome.{WalkOutcome, not-walkable-refusal, fresh-outcome, walk-refusal, walk-outcome};
 ghost use Rattle.walks.specs.Claims.{FreshClaims, WalkClaims};
+ghost use Rattle.precedence.specs.Outcome.{precedence-answer, precedence-report, precedence-reported};
+ghost use Rattle.precedence.specs.Claims.{PrecedenceClaims};
 ghost use Rattle.areas.specs.Reached.{even?, reached-part};
 ghost use Rattle.unfolding.specs.Unfolding.{unfold-outcome, UnfoldOutcome};
 ghost use Rattle.checking.specs.Checking.{check-outcome, CheckOutcome};
@@ -236,6 +239,16 @@ pub fn walk(
         (record { answer = r; progress = record { marks = now (marks .exit); finish = now (finished .exit) } }) ⌝ }
 {
     walks::walk(tables, plan, marks, message, finished)
+}
+
+// Whether on every path of a basic plan each appearance of the second action has the first somewhere before it, and else the least place of an appearance
+// that has none before it on its path. Refusals 1 to 8, 11 to 14, then 73 for equal actions or one outside 1 to n, then 70 for a plan that is not basic.
+pub fn precedes(tables: &[u8], plan: &[u8], first: u8, second: u8) -> Precedence
+    ensures whole { λ r. ⌜ r ≡ precedence-answer (now (tables .entry)) (now (plan .entry)) first second ⌝ }
+    ensures numbers { λ r. ⌜ precedence-report r ≡ precedence-reported (now (tables .entry)) (now (plan .entry)) first second ⌝ }
+    ensures claims { λ r. ⌜ PrecedenceClaims (now (tables .entry)) (now (plan .entry)) first second r ⌝ }
+{
+    precedence::precedes(tables, plan, first, second)
 }
 
 // The check of an unfolding's own rewriting; nothing is checked where the unfolding was refused.

@@ -1,5 +1,7 @@
 mod Answers
 mod Numbers
+mod Ranges
 mod Seen
 mod Texts
 mod Walks
+mod Precedence

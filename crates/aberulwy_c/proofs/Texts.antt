@@ -9,7 +9,7 @@ use lib.ListN.{length}
 use lib.Dec.{leb}
 use Rattle.refusals.specs.declared.Place.the-variants.{Nowhere}
 use Rattle.refusals.specs.declared.Refusal.{Refusal}
-use Rattle.refusals.specs.Refusal.{refuse, or-else}
+use Rattle.refusals.specs.Refusal.{refuse}
 use Rattle.areas.specs.Area.{most-words}
 use Rattle.tables.specs.Tables.{Tables, actions}
 use Rattle.tables.specs.Judging.{table-refusal}
@@ -21,39 +21,31 @@ use Rattle.texts.specs.Text.{found-refusal, plan-of, text-refusal, TextOutcome,
 use Rattle.texts.specs.Claims.{TextClaims}
 use Rattle.aberulwy_c.specs.Handing.{Answered}
 use Rattle.aberulwy_c.specs.Seen.{TextReadAs, read, refused, TextSeen}
-use Rattle.aberulwy_c.proofs.Numbers.{low?, low-range, low-tables}
+use Rattle.aberulwy_c.proofs.Numbers.{low-tables}
+use Rattle.aberulwy_c.proofs.Ranges.{Ranges, ranges-or, ranges-low}
 
--- a refusal's number
-abbrev Range : Option Refusal → Type 0
-Range none = Unit
-Range (some f) = (1 ≤ f .number) × (f .number ≤ 63)
+-- the highest refusal of a text
+abbrev highest : ℕ
+highest = 63
 
-range-or : (a b : Option Refusal) → Range a → Range b → Range (or-else a b)
-range-or none b x y = y
-range-or (some f) b x y = x
-
-range-tables : (o : Option Refusal) → low? o ≡ true → Range o
-range-tables none e = tt
-range-tables (some f) e = let i = low-range (f .number) e in (i .0, omega (arith, i .1))
-
-range-found : (n area : ℕ) (text : List ℕ) (p : Parse) → read-text n text ≡ p → Range (found-refusal area p)
+range-found : (n area : ℕ) (text : List ℕ) (p : Parse) → read-text n text ≡ p → Ranges highest (found-refusal area p)
 range-found n area text (Fault k q) e = let i = read-number n text k q e in (omega (arith, i .0), omega (arith, i .1))
 range-found n area text (Plan w) e = fitting (leb (length w) area && leb (length w) most-words)
   where
-    fitting : (b : Bool) → Range (cond b none (refuse 63 Nowhere))
+    fitting : (b : Bool) → Ranges highest (cond b none (refuse 63 Nowhere))
     fitting true = tt
     fitting false = (omega arith, omega arith)
 
 module _ (t : Tables) (text area : List ℕ) where
-  range : Range (text-refusal t text (length area))
+  range : Ranges highest (text-refusal t text (length area))
   unfolding text-refusal
-  range = range-or (table-refusal t) _ (range-tables (table-refusal t) (low-tables t)) (range-found (actions t) (length area) text (read-text (actions t) text) refl)
+  range = ranges-or highest (table-refusal t) _ (ranges-low highest (omega arith) (table-refusal t) (low-tables t)) (range-found (actions t) (length area) text (read-text (actions t) text) refl)
 
   refused-range : (f : Refusal) → text-outcome t text area .answer ≡ Refused f → (1 ≤ f .number) × (f .number ≤ 63)
   unfolding text-outcome
   refused-range f = go (text-refusal t text (length area)) range
     where
-      go : (o : Option Refusal) → Range o → unless-refused o (plan-of (read-text (actions t) text)) area .answer ≡ Refused f → (1 ≤ f .number) × (f .number ≤ 63)
+      go : (o : Option Refusal) → Ranges highest o → unless-refused o (plan-of (read-text (actions t) text)) area .answer ≡ Refused f → (1 ≤ f .number) × (f .number ≤ 63)
       go none r e = let z : _≡_ {A = ℕ} 0 1 = cc in absurd (omega arith)
       go (some g) r e = let q : g ≡ f = cc in rw (← q) r
 

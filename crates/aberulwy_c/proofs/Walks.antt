@@ -1,8 +1,8 @@
 -- What is claimed of the calls of a walk holds of the answer that the numbers tell: every refusal of them is 1 to 72.
-use Prim.Native.Nat.{ℕ, _≤_}
+use Prim.Native.Nat.{ℕ}
 use native.Mathlib.Omega.{arith}
 use mathlib.Core.Path.{_≡_, sym, ap, subst}
-use mathlib.Core.Bool.{Bool, true, false, not, _||_}
+use mathlib.Core.Bool.{Bool, not, _||_}
 use mathlib.Core.List.{List, [], _∷_}
 use mathlib.Core.Option.{Option, none, some}
 use lib.Dec.{eqb}
@@ -10,51 +10,36 @@ use lib.ListN.{length}
 use Rattle.refusals.specs.declared.Refusal.{Refusal}
 use Rattle.refusals.specs.declared.Judgement.{Judgement}
 use Rattle.refusals.specs.declared.Judgement.the-variants.{Accepted, Refused}
-use Rattle.refusals.specs.Refusal.{printed, or-else}
-use Rattle.tables.specs.Tables.{Tables, actions}
+use Rattle.refusals.specs.Refusal.{printed, refuse-if}
+use Rattle.tables.specs.Tables.{Tables, actions, outside?}
 use Rattle.plans.specs.Basic.{basic-words?}
 use Rattle.plans.specs.Judging.{plan-refusal}
-use Rattle.walks.specs.Progress.{Progress, fresh, outside?}
+use Rattle.walks.specs.Progress.{Progress, fresh}
 use Rattle.walks.specs.Pass.{take-message}
-use Rattle.walks.specs.Outcome.{refuse-if, not-walkable-refusal, WalkOutcome, accepted-outcome, unless-refused, fresh-outcome, not-taken?, walk-refusal, or-keep, walk-outcome}
+use Rattle.walks.specs.Outcome.{not-walkable-refusal, WalkOutcome, accepted-outcome, unless-refused, fresh-outcome, not-taken?, walk-refusal, or-keep, walk-outcome}
 use Rattle.walks.specs.Claims.{FreshClaims, WalkClaims}
 use Rattle.aberulwy_c.specs.Answers.{Returned, lent, of-walk}
 use Rattle.aberulwy_c.specs.Handing.{WalkAnswered}
 use Rattle.aberulwy_c.specs.Seen.{WalkedAs, accepted, refused, FreshSeen, WalkSeen}
-use Rattle.aberulwy_c.proofs.Numbers.{low?, low-range, low-plan}
+use Rattle.aberulwy_c.proofs.Numbers.{low-plan}
+use Rattle.aberulwy_c.proofs.Ranges.{Range, Ranges, ranges-or, ranges-low, ranges-if}
 
--- a refusal's number
-abbrev Range : Refusal → Type 0
-Range f = (1 ≤ f .number) × (f .number ≤ 72)
+-- the highest refusal of a walk
+abbrev highest : ℕ
+highest = 72
 
-abbrev Ranges : Option Refusal → Type 0
-Ranges none = Unit
-Ranges (some f) = Range f
-
-ranges-or : (a b : Option Refusal) → Ranges a → Ranges b → Ranges (or-else a b)
-ranges-or none b x y = y
-ranges-or (some f) b x y = x
-
-ranges-low : (o : Option Refusal) → low? o ≡ true → Ranges o
-ranges-low none e = tt
-ranges-low (some f) e = let i = low-range (f .number) e in (i .0, omega (arith, i .1))
-
-ranges-if : (b : Bool) (k : ℕ) → 1 ≤ k → k ≤ 72 → Ranges (refuse-if b k)
-ranges-if true k l h = (l, h)
-ranges-if false k l h = tt
-
-walk-ranges : (t : Tables) (plan marks : List ℕ) → Ranges (not-walkable-refusal t plan marks)
+walk-ranges : (t : Tables) (plan marks : List ℕ) → Ranges highest (not-walkable-refusal t plan marks)
 unfolding not-walkable-refusal
 walk-ranges t plan marks =
-    ranges-or (plan-refusal t plan) _ (ranges-low (plan-refusal t plan) (low-plan t plan))
-    (ranges-if (not (basic-words? (actions t) plan) || not (eqb (length marks) (length plan))) 70 (omega arith) (omega arith))
+    ranges-or highest (plan-refusal t plan) _ (ranges-low highest (omega arith) (plan-refusal t plan) (low-plan t plan))
+    (ranges-if highest (not (basic-words? (actions t) plan) || not (eqb (length marks) (length plan))) 70 (omega arith) (omega arith))
 
 -- of an answer
 abbrev Answer-range : Judgement → Type 0
 Answer-range Accepted = Unit
-Answer-range (Refused f) = Range f
+Answer-range (Refused f) = Range highest f
 
-unless-range : (o : Option Refusal) (p : Progress) (x : WalkOutcome) → Ranges o → Answer-range (x .answer) → Answer-range (unless-refused o p x .answer)
+unless-range : (o : Option Refusal) (p : Progress) (x : WalkOutcome) → Ranges highest o → Answer-range (x .answer) → Answer-range (unless-refused o p x .answer)
 unless-range none p x r s = s
 unless-range (some f) p x r s = r
 
@@ -66,9 +51,9 @@ walk-range : (t : Tables) (plan : List ℕ) (m : ℕ) (p : Progress) → Answer-
 unfolding walk-outcome walk-refusal
 walk-range t plan m p =
     unless-range (walk-refusal t plan m p) p (accepted-outcome (or-keep (take-message (actions t) plan m p) p))
-    (ranges-or (not-walkable-refusal t plan (p .marks)) _ (walk-ranges t plan (p .marks))
-    (ranges-or (refuse-if (outside? (actions t) m) 71) _ (ranges-if (outside? (actions t) m) 71 (omega arith) (omega arith))
-    (ranges-if (not-taken? (take-message (actions t) plan m p)) 72 (omega arith) (omega arith)))) tt
+    (ranges-or highest (not-walkable-refusal t plan (p .marks)) _ (walk-ranges t plan (p .marks))
+    (ranges-or highest (refuse-if (outside? (actions t) m) 71) _ (ranges-if highest (outside? (actions t) m) 71 (omega arith) (omega arith))
+    (ranges-if highest (not-taken? (take-message (actions t) plan m p)) 72 (omega arith) (omega arith)))) tt
 
 walked-as : (x : Judgement) → Answer-range x → {b : Bool} {h n p f : ℕ} → WalkAnswered x b h n p f → WalkedAs x n p
 walked-as Accepted r a = rw (a .number, a .place) accepted

@@ -1,5 +1,5 @@
 -- What is claimed of the calls for C and Rust: the claims of the calls below, of the answer that the numbers seen tell. (Demands 2, 3; requests
--- 101 to 103.)
+-- 101 to 103, 105.)
 use Prim.Native.Nat.{ℕ, _≤_}
 use mathlib.Core.Path.{_≡_}
 use mathlib.Core.Bool.{Bool}
@@ -17,6 +17,9 @@ use Rattle.texts.specs.declared.TextRead.{TextRead}
 use Rattle.texts.specs.declared.TextRead.the-variants.{Read, Refused as Not-read}
 use Rattle.texts.specs.Claims.{TextClaims}
 use Rattle.walks.specs.Claims.{FreshClaims, WalkClaims}
+use Rattle.precedence.specs.declared.Precedence.{Precedence}
+use Rattle.precedence.specs.declared.Precedence.the-variants.{Yes, No, Refused as Not-answered}
+use Rattle.precedence.specs.Claims.{PrecedenceClaims}
 use Rattle.tables.specs.Tables.{Tables}
 use Rattle.plans.specs.Accepted.{AcceptedPlan}
 use Rattle.paths.specs.Counts.{CountClaims}
@@ -58,6 +61,13 @@ pub data TextReadAs : TextRead → ℕ → ℕ → ℕ → Type 0 where
 pub data WalkedAs : Judgement → ℕ → ℕ → Type 0 where
   accepted : WalkedAs Walk-accepted 0 0
   refused : (f : Refusal) → 1 ≤ f .number → f .number ≤ 72 → WalkedAs (Walk-refused f) (f .number) (printed (f .place))
+
+-- The answer whether one action stands before another by the number answered and the place, yes and at set: 0 with yes 1 is yes, 0 with yes 0 is no at that
+-- place, 1 to 73 are refusals.
+pub data PrecededAs : Precedence → ℕ → ℕ → ℕ → ℕ → Type 0 where
+  is-so : PrecededAs Yes 0 0 1 0
+  not-so : (at : ℕ) → PrecededAs (No at) 0 0 0 at
+  refused : (f : Refusal) → 1 ≤ f .number → f .number ≤ 73 → PrecededAs (Not-answered f) (f .number) (printed (f .place)) 0 0
 
 -- Of an unfolding that left these bytes: what is claimed of it holds of the answer seen.
 pub record UnfoldSeen (given : UnfoldGiven) (list a b : List ℕ) (number place steps size : ℕ) : Type 0 where
@@ -117,3 +127,9 @@ pub record WalkSeen (tables : Tables) (plan marks left : List ℕ) (message held
   pub seen : WalkedAs answer number place
   pub finish-seen : finished ≡ finish-left answer held finish
   pub claims : WalkClaims tables plan message (lent marks held) (record { answer = answer; progress = record { marks = left; finish = finish } })
+
+-- Of whether one action stands before another.
+pub record PrecedenceSeen (tables : Tables) (plan : List ℕ) (first second number place yes at : ℕ) : Type 0 where
+  pub answer : Precedence
+  pub seen : PrecededAs answer number place yes at
+  pub claims : PrecedenceClaims tables plan first second answer

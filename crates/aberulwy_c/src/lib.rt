@@ -6,6 +6,7 @@ use aberulwy::OrdersAnswer;
 use aberulwy::OwnCheck;
 use checking::Checked;
 use listing::Listed;
+use precedence::Precedence;
 use refusals::Judgement;
 use refusals::Refusal;
 use stations::StationRead;
@@ -22,6 +23,7 @@ ghost use Rattle.tables.specs.Judging.{table-refusal};
 ghost use Rattle.tables.specs.Lawful.{Lawful};
 ghost use Rattle.plans.specs.Judging.{plan-refusal};
 ghost use Rattle.plans.specs.Accepted.{AcceptedPlan, BasicPlan};
+ghost use Rattle.precedence.specs.Outcome.{precedence-reported};
 ghost use Rattle.demands.specs.Claims.{unfold-given, check-given};
 ghost use Rattle.aberulwy.specs.Judging.{basic-reported, orders-reported};
 ghost use Rattle.aberulwy.specs.Rewriting.{unfold-report, check-report, own-report};
@@ -33,6 +35,7 @@ ghost use Rattle.aberulwy_c.specs.Answers.{unfold-returned, check-return
 ghost use Rattle.aberulwy_c.specs.Answers.{fresh-returned, walk-returned};
 ghost use Rattle.aberulwy_c.specs.Handing.{Answered, MaybeAnswered, WalkAnswered};
 ghost use Rattle.aberulwy_c.specs.Seen.{OrdersSeen, UnfoldSeen, CheckSeen, StepSeen, OwnSeen, TextSeen, FreshSeen, WalkSeen};
+ghost use Rattle.aberulwy_c.specs.Seen.{PrecedenceSeen};
 
 // Answers a refusal's number and sets its place.
 fn refuse(refusal: Refusal, place: &mut usize) -> u8
@@ -489,6 +492,40 @@ pub extern "C" fn aberulwy_walk(
     let mut finish = *finished != 0;
     let answer = aberulwy::walk(tables, plan, marks, message, &mut finish);
     hand_walked(answer, finish, finished, place)
+}
+
+// Asks whether on every path each appearance of the second action has the first before it: 0, with `yes` 1, or with `yes` 0 and in `at` the least place of
+// one that has not; or the number of the refusal and its place. `at` is 0 but under no.
+#[no_mangle]
+pub extern "C" fn aberulwy_precedes(
+    tables: &[u8],
+    plan: &[u8],
+    first: u8,
+    second: u8,
+    yes: &mut usize,
+    at: &mut usize,
+    place: &mut usize,
+) -> u8
+    ensures whole { λ r. ⌜ _≡_ {A = Returned}
+        (record { number = r; place = now (place .exit); values = now (yes .exit) ∷ now (at .exit) ∷ []; areas = [] })
+        (returned 2 (precedence-reported (now (tables .entry)) (now (plan .entry)) first second) []) ⌝ }
+    ensures claims { λ r. ⌜ PrecedenceSeen (now (tables .entry)) (now (plan .entry)) first second
+        r (now (place .exit)) (now (yes .exit)) (now (at .exit)) ⌝ }
+{
+    *yes = 0;
+    *at = 0;
+    *place = 0;
+    match aberulwy::precedes(tables, plan, first, second) {
+        Precedence::Yes => {
+            *yes = 1;
+            0
+        }
+        Precedence::No(found) => {
+            *at = found;
+            0
+        }
+        Precedence::Refused(refusal) => refuse(refusal, place),
+    }
 }
 
 // Lists a station file, everything that the program prints for it, with zeros behind it: 0 and its length; or 1 and 0 where the area is too

@@ -5,3 +5,4 @@ pub mod Parts
 pub mod Starting
 pub mod Ends
 pub mod Counts
+pub mod Appearances

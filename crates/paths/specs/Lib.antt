@@ -3,3 +3,4 @@ pub mod Subplans
 pub mod Operands
 pub mod Ends
 pub mod Counts
+pub mod Appearances

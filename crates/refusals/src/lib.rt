@@ -1,6 +1,7 @@
 // Refusals as document 01 numbers them: a number, and the place that it names.
 ghost use mathlib.Core.Path.{_≡_};
-ghost use Rattle.refusals.specs.Refusal.{printed};
+ghost use Rattle.refusals.specs.declared.Place.the-variants.{Nowhere};
+ghost use Rattle.refusals.specs.Refusal.{printed, judged, refuse};
 
 // Where a refusal points: a byte's index, a triple of actions or a step's index, or nowhere.
 pub enum Place {
@@ -19,6 +20,16 @@ pub struct Refusal {
 pub enum Judgement {
     Accepted,
     Refused(Refusal),
+}
+
+// The refusal of that number, which names no place.
+pub fn refused(number: u8) -> Judgement
+    ensures whole { λ r. ⌜ r ≡ judged (refuse number Nowhere) ⌝ }
+{
+    Judgement::Refused(Refusal {
+        number,
+        place: Place::Nowhere,
+    })
 }
 
 // The printed form of a place.

@@ -10,7 +10,7 @@ use Rattle.refusals.specs.declared.Refusal.{Refusal}
 use Rattle.refusals.specs.Refusal.{refuse, or-else}
 use Rattle.tables.specs.Search.{first-from, unless-met}
 use Rattle.tables.specs.Tables.{Tables, tables-length, most-actions, row-length, set-count, communication-at, priority-at, sets-at}
-use Rattle.tables.specs.Tables.{entry-of, marked, actions, communication}
+use Rattle.tables.specs.Tables.{entry-of, marked, actions, outside?, communication}
 
 -- Conditions
 
@@ -25,7 +25,7 @@ byte-right n m a b v = entry-right m (ltb n a || ltb n b) v
 
 -- a byte v in column a of a set
 abbrev pub set-right : ℕ → ℕ → ℕ → Bool
-set-right n a v = entry-right 1 (eqb a 0 || ltb n a) v
+set-right n a v = entry-right 1 (outside? n a) v
 
 -- "row and column 0 of communication all zero (C3)"
 unfoldable pub null-right : (ℕ → ℕ → ℕ) → ℕ → ℕ → Bool

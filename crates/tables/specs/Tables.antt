@@ -1,9 +1,9 @@
 -- The tables of document 01: one list of 2,305 bytes, read at fixed offsets. (01, "Tables".)
 use Prim.Native.Nat.{ℕ, _+_, _*_}
-use mathlib.Core.Bool.{Bool}
+use mathlib.Core.Bool.{Bool, _||_}
 use mathlib.Core.List.{List}
 use lib.ListN.{getD}
-use lib.Dec.{eqb}
+use lib.Dec.{eqb, ltb}
 
 abbrev pub Tables : Type 0
 Tables = List ℕ
@@ -44,6 +44,10 @@ marked t start a b = eqb (entry-of t start a b) 1
 -- "byte 0 is n, the count of actions"
 unfoldable pub actions : Tables → ℕ
 actions t = getD t 0 0
+
+-- an action "outside 1 to n" (requests 102 and 105)
+abbrev pub outside? : ℕ → ℕ → Bool
+outside? n a = eqb a 0 || ltb n a
 
 -- "Then 1,024 bytes of communication: entry 32 × a + b is a|b"
 unfoldable pub communication : Tables → ℕ → ℕ → ℕ

@@ -7,10 +7,10 @@ ghost use mathlib.Core.Bool.{_||_};
 ghost use mathlib.Core.Logic.{_↔_};
 ghost use Prim.Native.Nat.{_≤_};
 ghost use lib.ListN.{getD};
-ghost use lib.Dec.{eqb, ltb};
+ghost use lib.Dec.{ltb};
 ghost use Rattle.refusals.specs.declared.Judgement.the-variants.{Accepted};
 ghost use Rattle.refusals.specs.Refusal.{judged};
-ghost use Rattle.tables.specs.Tables.{most-actions, sets-at, priority-at, entry-of, marked, actions, communication, below, blocked};
+ghost use Rattle.tables.specs.Tables.{most-actions, sets-at, priority-at, entry-of, marked, actions, outside?, communication, below, blocked};
 ghost use Rattle.tables.specs.Judging.{entry-right, null-right, group-right, order-right, first-entry, first-triple};
 ghost use Rattle.tables.specs.Judging.{first-not-above, count-refusal, priority-entries, shared-entries};
 ghost use Rattle.tables.specs.Judging.{communication-refusal, order-refusal, shared-refusal, content-refusal};
@@ -117,9 +117,9 @@ fn outside(n: u8, row: u8, column: u8) -> bool
     n < row || n < column
 }
 
-// Whether no set may have an action: it is 0 or exceeds n.
-fn in_no_set(n: u8, a: u8) -> bool
-    ensures whole { λ r. ⌜ r ≡ (eqb a 0 || ltb n a) ⌝ }
+// Whether an action is outside 1 to n; no set may have such a one.
+pub fn is_outside(n: u8, a: u8) -> bool
+    ensures whole { λ r. ⌜ r ≡ outside? n a ⌝ }
 {
     a == 0 || n < a
 }
@@ -179,7 +179,7 @@ fn entry_meets(rule: EntryRule, tables: &[u8], start: usize, n: u8, row: u8, col
     match rule {
         EntryRule::Communication => entry_right(n, outside(n, row, column), v),
         EntryRule::Priority => entry_right(1, outside(n, row, column), v),
-        EntryRule::Sets => entry_right(1, in_no_set(n, column), v),
+        EntryRule::Sets => entry_right(1, is_outside(n, column), v),
         EntryRule::Null => null_right(tables, start, row, column),
         EntryRule::Swap => v == entry_at(tables, start, column, row),
     }

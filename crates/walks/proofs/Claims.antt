@@ -15,7 +15,8 @@ use Rattle.refusals.specs.declared.Refusal.{Refusal}
 use Rattle.refusals.specs.declared.Judgement.{Judgement}
 use Rattle.refusals.specs.declared.Judgement.the-variants.{Accepted, Refused}
 use Rattle.refusals.specs.Refusal.{refuse, report, reported}
-use Rattle.tables.specs.Tables.{Tables, actions}
+use Rattle.tables.specs.Tables.{Tables, actions, outside?}
+use Rattle.tables.proofs.Actions.{is-outside, outside-said, not-outside, within}
 use Rattle.plans.specs.Basic.{basic-words?}
 use Rattle.plans.specs.Judging.{plan-refusal}
 use Rattle.plans.specs.Accepted.{BasicPlan}
@@ -23,14 +24,14 @@ use Rattle.plans.proofs.Options.{never}
 use Rattle.plans.proofs.Accepted.{accepted-plan, accepted-reads-as, basic-plan}
 use Rattle.trees.specs.Tree.{Rest, finish}
 use Rattle.paths.specs.Subplans.{Target, at-finish, subplan, rest-of}
-use Rattle.walks.specs.Progress.{Progress, fresh, outside?}
+use Rattle.walks.specs.Progress.{Progress, fresh}
 use Rattle.walks.specs.Pass.{take-message}
 use Rattle.walks.specs.Turns.{message-outcome}
 use Rattle.walks.specs.Outcome.{not-walkable-refusal, WalkOutcome, accepted-outcome, refused-outcome, fresh-outcome, walk-outcome, walk-refusal}
 use Rattle.walks.specs.Reached.{FromMark, MarkedBranch}
 use Rattle.walks.specs.Claims.{Walkable, NotWalkable, by-plan, not-basic, other-length, AfterMessages, FreshClaims, Taken, NotTaken, not-walkable, outside, no-path, WalkClaims}
-use Rattle.walks.proofs.Outcomes.{refusal-plan, refusal-not-basic, refusal-length, refusal-none, none-said, fresh-refused, fresh-begun, walk-refused, walk-outside, walk-on, outside-zero, outside-high, outside-none, outside-said, message-inside, fresh-numbers, walk-numbers}
-use Rattle.walks.proofs.Taken.{within, taken-led, leads-branch, branch-leads, taken-iff-branch}
+use Rattle.walks.proofs.Outcomes.{refusal-plan, refusal-not-basic, refusal-length, refusal-none, none-said, fresh-refused, fresh-begun, walk-refused, walk-outside, walk-on, message-inside, fresh-numbers, walk-numbers}
+use Rattle.walks.proofs.Taken.{taken-led, leads-branch, branch-leads, taken-iff-branch}
 use Rattle.walks.proofs.Written.{taken-written}
 use Rattle.walks.proofs.Walked.{can-walk, walk-takes, walk-finish, walk-marks, walk-paths, walked-fits, walked-written}
 use Rattle.walks.proofs.Deciding.{same-truth, same-replies}
@@ -214,13 +215,9 @@ module _ (t : Tables) (plan : List ℕ) (m : ℕ) (p : Progress) where
   -- and the other way round
   not-taken-outcome : (r : Refusal) → NotTaken t plan m p r → walk-outcome t plan m p ≡ refused-outcome r p
   not-taken-outcome r (not-walkable f k) = walk-refused t plan p m f (not-walkable-some t plan (p .marks) f k)
-  not-taken-outcome r (outside w h) = walk-outside t plan p m (walkable-none t plan (p .marks) w) (by h)
-    where
-      by : (m ≡ 0) ⊎ (actions t < m) → outside? (actions t) m ≡ true
-      by (inl e) = outside-zero (actions t) m e
-      by (inr l) = outside-high (actions t) m l
+  not-taken-outcome r (outside w h) = walk-outside t plan p m (walkable-none t plan (p .marks) w) (is-outside (actions t) m h)
   not-taken-outcome r (no-path w low high f) =
-      walk-on t plan p m (walkable-none t plan (p .marks) w) (outside-none (actions t) m (λ e. omega arith) high) ∙ ap (λ a. message-outcome a p) (nothing (take-message (actions t) plan m p) refl)
+      walk-on t plan p m (walkable-none t plan (p .marks) w) (not-outside (actions t) m (omega arith) high) ∙ ap (λ a. message-outcome a p) (nothing (take-message (actions t) plan m p) refl)
     where
       nothing : (a : Option Progress) → take-message (actions t) plan m p ≡ a → take-message (actions t) plan m p ≡ none
       nothing none d = d

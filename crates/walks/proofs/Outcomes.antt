@@ -1,30 +1,29 @@
 -- What the calls of a walk answer and leave, case by case.
-use Prim.Native.Nat.{ℕ, _+_, _-_, _≤_, _<_}
+use Prim.Native.Nat.{ℕ, _+_, _-_, _≤_}
 use native.Mathlib.Omega.{arith}
 use mathlib.Core.Path.{_≡_, refl, sym, ap, ap₂, _∙_, subst}
 use mathlib.Core.Bool.{Bool, true, false, not, _||_, false≢true}
 use mathlib.Core.List.{List, [], _++_, append-nil}
-use mathlib.Core.Logic.{_⊎_, inl, inr}
 use mathlib.Core.Option.{Option, none, some}
-use lib.Dec.{eqb, ltb}
+use lib.Dec.{eqb}
 use lib.ListN.{length, set, take, replicate, length-replicate, drop-of-length-le}
-use borrow.Author.Tests.{eq-eqb, ne-eqb, eqb-true, ltb-true, lt-ltb, le-ltb}
+use borrow.Author.Tests.{eq-eqb, ne-eqb, eqb-true}
 use Rattle.areas.specs.Area.{overwrite, padded}
 use Rattle.refusals.specs.declared.Place.the-variants.{Nowhere}
 use Rattle.refusals.specs.declared.Refusal.{Refusal}
 use Rattle.refusals.specs.declared.Judgement.{Judgement}
 use Rattle.refusals.specs.declared.Judgement.the-variants.{Accepted, Refused}
-use Rattle.refusals.specs.Refusal.{refuse, or-else, judged, report, reported}
+use Rattle.refusals.specs.Refusal.{refuse, refuse-if, or-else, judged, report, reported}
 use Rattle.refusals.proofs.Judging.{none-of-both, refused-some}
-use Rattle.tables.specs.Tables.{Tables, actions}
+use Rattle.tables.specs.Tables.{Tables, actions, outside?}
 use Rattle.plans.specs.Basic.{basic-words?}
 use Rattle.plans.specs.Judging.{plan-refusal}
 use Rattle.plans.proofs.Options.{never}
 use Rattle.plans.proofs.Accepted.{plan-accepted-iff, few-actions, accepted-plan}
-use Rattle.walks.specs.Progress.{Progress, fresh, outside?}
+use Rattle.walks.specs.Progress.{Progress, fresh}
 use Rattle.walks.specs.Pass.{passed, some-mark, progress-after, take-message}
 use Rattle.walks.specs.Turns.{Walking, Found, message-outcome}
-use Rattle.walks.specs.Outcome.{refuse-if, not-walkable-refusal, WalkOutcome, accepted-outcome, refused-outcome, unless-refused, fresh-outcome, walk-outcome, not-taken?, or-keep, walk-refusal}
+use Rattle.walks.specs.Outcome.{not-walkable-refusal, WalkOutcome, accepted-outcome, refused-outcome, unless-refused, fresh-outcome, walk-outcome, not-taken?, or-keep, walk-refusal}
 
 -- whether a plan can be walked with these marks
 module _ (t : Tables) (plan marks : List ℕ) where
@@ -139,25 +138,6 @@ pub message-outside : (n : ℕ) (plan : List ℕ) (m : ℕ) (p : Progress) → o
 unfolding take-message
 message-outside n plan m p o = rw o refl
 
--- a message outside 1 to n, by the tests of the code
-pub outside-zero : (n m : ℕ) → m ≡ 0 → outside? n m ≡ true
-outside-zero n m e = rw (eq-eqb m 0 e) refl
-
-pub outside-high : (n m : ℕ) → n < m → outside? n m ≡ true
-outside-high n m h = rw (lt-ltb n m h) (go (eqb m 0))
-  where
-    go : (b : Bool) → b || true ≡ true
-    go true = refl
-    go false = refl
-
-pub outside-said : (n m : ℕ) → outside? n m ≡ true → (m ≡ 0) ⊎ (n < m)
-outside-said n m e = go (eqb m 0) refl (ltb n m) refl e
-  where
-    go : (b : Bool) → eqb m 0 ≡ b → (c : Bool) → ltb n m ≡ c → b || c ≡ true → (m ≡ 0) ⊎ (n < m)
-    go true d c f e = inl (eqb-true m 0 d)
-    go false d true f e = inr (ltb-true n m f)
-    go false d false f e = absurd (false≢true e)
-
 -- a message that is taken is none of those
 pub message-inside : (n : ℕ) (plan : List ℕ) (m : ℕ) (p q : Progress) → take-message n plan m p ≡ some q → outside? n m ≡ false
 message-inside n plan m p q e = go (outside? n m) refl
@@ -165,9 +145,6 @@ message-inside n plan m p q e = go (outside? n m) refl
     go : (b : Bool) → outside? n m ≡ b → outside? n m ≡ false
     go true o = never (sym (message-outside n plan m p o) ∙ e)
     go false o = o
-
-pub outside-none : (n m : ℕ) → (m ≡ 0 → ⊥) → m ≤ n → outside? n m ≡ false
-outside-none n m d h = rw (ne-eqb m 0 d, le-ltb n m h) refl
 
 -- a plan that can be walked has a word
 pub plan-words : (t : Tables) (plan marks : List ℕ) → not-walkable-refusal t plan marks ≡ none → 1 ≤ length plan

@@ -1,23 +1,24 @@
 -- One message from any set of marks: it is taken exactly when the tree of some marked subplan has a branch with it, and what stands
 -- afterwards is what these branches lead to.
-use Prim.Native.Nat.{ℕ, zero, suc, _+_, _-_, _≤_, _<_}
+use Prim.Native.Nat.{ℕ, zero, suc, _+_, _≤_, _<_}
 use native.Mathlib.Omega.{arith}
 use mathlib.Core.Path.{_≡_, refl, ap, sym, _∙_, subst}
 use mathlib.Core.Bool.{Bool, true, false, cond, _||_, false≢true}
 use mathlib.Core.List.{List, [], _∷_}
 use mathlib.Core.Logic.{_↔_, _⊎_, inl, inr}
 use mathlib.Core.Option.{Option, none, some, Option·some-injective}
-use lib.Dec.{eqb, ltb}
+use lib.Dec.{ltb}
 use lib.ListN.{length, replicate, length-replicate, getD-replicate, List·getD-eq-default}
-use borrow.Author.Tests.{ltb-true, ltb-false, lt-ltb, le-ltb, eqb-false, ne-eqb}
-use Rattle.tables.specs.Tables.{Tables}
+use borrow.Author.Tests.{ltb-true, ltb-false, lt-ltb}
+use Rattle.tables.specs.Tables.{Tables, outside?}
+use Rattle.tables.proofs.Actions.{not-outside, within}
 use Rattle.plans.specs.Term.{Term, words, Over, term-of}
 use Rattle.plans.specs.Basic.{Basic, dead-stop, sum-plan, SumPlan, action, prefix, sum}
 use Rattle.plans.proofs.Place.{subterm-over}
 use Rattle.plans.proofs.Options.{never}
 use Rattle.trees.specs.Tree.{Rest}
 use Rattle.paths.specs.Subplans.{place-of, Target, at-finish, subplan, Transition, ends, goes, left, right, Transitions, stay, go, rest-of}
-use Rattle.walks.specs.Progress.{Progress, Marked, outside?}
+use Rattle.walks.specs.Progress.{Progress, Marked}
 use Rattle.walks.specs.Pass.{marked?, Pass, pass, passed, some-mark, progress-after, take-message}
 use Rattle.walks.specs.Reached.{FromMark, FromMarkTo, MarkedBranch}
 use Rattle.paths.proofs.Standing.{standing-whole}
@@ -63,20 +64,6 @@ mutual
   sum-range (prefix l b) o goes = (l, o .0)
   sum-range (sum b c) o (left i) = sum-range b (o .0) i
   sum-range (sum b c) o (right i) = sum-range c (o .1) i
-
-pub within : (n m : ℕ) → outside? n m ≡ false → (0 < m) × (m ≤ n)
-within n m e = go (eqb m 0) refl (ltb n m) refl e
-  where
-    positive : (m ≡ 0 → ⊥) → 0 < m
-    positive f = omega arith
-
-    go : (b : Bool) → eqb m 0 ≡ b → (c : Bool) → ltb n m ≡ c → b || c ≡ false → (0 < m) × (m ≤ n)
-    go true d c f e = absurd (false≢true (sym e))
-    go false d true f e = absurd (false≢true (sym e))
-    go false d false f e = (positive (eqb-false m 0 d), ltb-false n m f)
-
-pub not-outside : (n m : ℕ) → 0 < m → m ≤ n → outside? n m ≡ false
-not-outside n m h i = rw (ne-eqb m 0 (λ e. omega arith), le-ltb n m i) refl
 
 -- the beginning of a pass
 abbrev blank-pass : List ℕ → List ℕ → Pass

@@ -1,7 +1,7 @@
 -- One turn of a pass: where the operands of an operator stand, and what each kind of word leaves.
 use Prim.Native.Nat.{ℕ, suc, _+_, _-_, _≤_, _<_}
 use native.Mathlib.Omega.{arith}
-use mathlib.Core.Path.{_≡_, refl, ap, ap₂, sym, _∙_, subst}
+use mathlib.Core.Path.{_≡_, refl, ap, ap₂, sym, _∙_}
 use mathlib.Core.Bool.{Bool, true, false, cond, _||_}
 use mathlib.Core.List.{List}
 use lib.Dec.{eqb}
@@ -10,15 +10,8 @@ use lib.Seq.{drop-cons}
 use borrow.Author.Tests.{eq-eqb, ne-eqb, lt-ltb, le-ltb}
 use Rattle.areas.specs.Area.{most-words, overwrite, padded}
 use Rattle.areas.proofs.Area.{take-overwrite, overwrite-length}
-use Rattle.plans.specs.declared.Binary.{Binary}
-use Rattle.plans.specs.declared.Binary.the-variants.{Choice, Sequence}
-use Rattle.plans.specs.declared.Word.the-variants.{Two}
-use Rattle.plans.specs.Word.{binary-word, word-of}
-use Rattle.plans.specs.Start.{Operands}
-use Rattle.plans.proofs.Words.{word-binary}
 use Rattle.plans.proofs.Accepted.{accepted-length}
 use Rattle.paths.specs.Operands.{first-operand}
-use Rattle.paths.proofs.Starting.{operands-there}
 use Rattle.walks.specs.Pass.{Pass, look, turn, pass, passed, some-mark}
 use Rattle.walks.specs.Turns.{Found, Passing, Looked}
 
@@ -27,27 +20,6 @@ module _ {n : ℕ} {plan starts left next : List ℕ} (h : Passing n plan starts
   words-few = accepted-length n (h .few) plan (h .accepted)
 
   module _ (i : ℕ) (inside : i < length plan) where
-    -- an operator of two has its operands before it
-    pub record Before : Type 0 where
-      pub some-word : 1 ≤ i
-      pub some-start : 1 ≤ getD starts (i - 1) 0
-      pub start-before : getD starts (i - 1) 0 < i
-      pub first-there : getD starts (i - 1) 0 - 1 ≡ first-operand n plan i
-
-    operands-before : (o : Binary) → getD plan i 0 ≡ binary-word o → Before
-    unfolding first-operand
-    operands-before o e =
-        let k : Operands (Two o) starts i = subst (λ w. Operands w starts i) (ap (word-of n) e ∙ word-binary n (h .few) o) (operands-there n (h .few) plan (h .accepted) i inside starts (λ k l. h .starts-right k (omega arith))) in
-        record { some-word = k .0; some-start = k .1; start-before = k .2; first-there = ap (λ s. s - 1) (h .starts-right (i - 1) (omega arith)) }
-
-    pub before-sum : getD plan i 0 ≡ 64 → Before
-    unfolding binary-word
-    before-sum e = operands-before Choice e
-
-    pub before-product : getD plan i 0 ≡ 65 → Before
-    unfolding binary-word
-    before-product e = operands-before Sequence e
-
     -- what each kind of word leaves
     module _ (m : ℕ) where
       pub looked-sum : getD plan i 0 ≡ 64 → (first : ℕ) → first ≡ first-operand n plan i → Looked n plan m i left next (set (set left (i - 1) 1) first 1) next false

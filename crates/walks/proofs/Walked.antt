@@ -1,5 +1,5 @@
 -- Messages one after another, by induction over the list: from any progress, and from a fresh walk.
-use Prim.Native.Nat.{ℕ, _+_, _-_, _≤_, _<_}
+use Prim.Native.Nat.{ℕ, _-_, _≤_, _<_}
 use native.Mathlib.Omega.{arith}
 use mathlib.Core.Path.{_≡_, refl, ap, sym, _∙_, subst}
 use mathlib.Core.Bool.{Bool, true, false, false≢true}
@@ -12,7 +12,7 @@ use lib.Seq.{getD-set-same, getD-set-other}
 use borrow.Author.Tests.{ltb-true, ltb-false, eqb-true, eqb-false}
 use Rattle.refusals.specs.declared.Refusal.{Refusal}
 use Rattle.refusals.specs.declared.Judgement.the-variants.{Accepted}
-use Rattle.tables.specs.Tables.{Tables, actions}
+use Rattle.tables.specs.Tables.{Tables, actions, outside?}
 use Rattle.plans.specs.Term.{Term, term-of}
 use Rattle.plans.specs.Place.{subterm}
 use Rattle.plans.specs.Basic.{Basic}
@@ -23,7 +23,7 @@ use Rattle.trees.specs.Tree.{Rest, finish, further}
 use Rattle.trees.specs.Meaning.{tree}
 use Rattle.paths.specs.Paths.{Leads, Begins, Finishes}
 use Rattle.paths.specs.Subplans.{place-of, Target, at-finish, subplan, Transition, Transitions, stay, go, rest-of}
-use Rattle.walks.specs.Progress.{Progress, Marked, fresh, outside?}
+use Rattle.walks.specs.Progress.{Progress, Marked, fresh}
 use Rattle.walks.specs.Pass.{take-message}
 use Rattle.walks.specs.Turns.{message-outcome}
 use Rattle.walks.specs.Outcome.{not-walkable-refusal, WalkOutcome, accepted-outcome, refused-outcome, walk-outcome}

@@ -4,14 +4,15 @@ use native.Mathlib.Omega.{arith}
 use mathlib.Core.Path.{_≡_, refl, subst}
 use mathlib.Core.Bool.{Bool, true, false, cond, _||_}
 use mathlib.Core.List.{List}
-use mathlib.Core.Option.{Option, none, some, Option·some-injective}
+use mathlib.Core.Option.{none, some, Option·some-injective}
 use lib.Dec.{eqb, ltb}
 use lib.ListN.{length, getD, set, replicate, length-replicate, getD-replicate, List·getD-eq-default}
 use lib.Seq.{getD-set-same, getD-set-other, set-out}
 use borrow.Author.Tests.{eqb-true, eqb-false, ltb-true, ltb-false}
+use Rattle.tables.specs.Tables.{outside?}
 use Rattle.plans.proofs.Options.{never}
 use Rattle.paths.specs.Operands.{first-operand}
-use Rattle.walks.specs.Progress.{Progress, outside?}
+use Rattle.walks.specs.Progress.{Progress}
 use Rattle.walks.specs.Pass.{Pass, marked?, turn, pass, passed, some-mark, progress-after, take-message}
 
 abbrev pub Written : List ℕ → Type 0

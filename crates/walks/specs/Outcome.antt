@@ -5,20 +5,15 @@ use mathlib.Core.List.{List}
 use mathlib.Core.Option.{Option, none, some}
 use lib.ListN.{length}
 use lib.Dec.{eqb}
-use Rattle.refusals.specs.declared.Place.the-variants.{Nowhere}
 use Rattle.refusals.specs.declared.Refusal.{Refusal}
 use Rattle.refusals.specs.declared.Judgement.{Judgement}
 use Rattle.refusals.specs.declared.Judgement.the-variants.{Accepted, Refused}
-use Rattle.refusals.specs.Refusal.{refuse, or-else}
-use Rattle.tables.specs.Tables.{Tables, actions}
+use Rattle.refusals.specs.Refusal.{refuse-if, or-else}
+use Rattle.tables.specs.Tables.{Tables, actions, outside?}
 use Rattle.plans.specs.Basic.{basic-words?}
 use Rattle.plans.specs.Judging.{plan-refusal}
-use Rattle.walks.specs.Progress.{Progress, fresh, outside?}
+use Rattle.walks.specs.Progress.{Progress, fresh}
 use Rattle.walks.specs.Pass.{take-message}
-
-abbrev pub refuse-if : Bool → ℕ → Option Refusal
-refuse-if true k = refuse k Nowhere
-refuse-if false k = none
 
 -- "A plan that isn't basic, or marks of another length than the plan, get 70 straight after 1 to 14"
 unfoldable pub not-walkable-refusal : Tables → List ℕ → List ℕ → Option Refusal

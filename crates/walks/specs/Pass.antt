@@ -5,8 +5,9 @@ use mathlib.Core.List.{List, [], _∷_}
 use mathlib.Core.Option.{Option, none, some}
 use lib.ListN.{length, getD, set, replicate}
 use lib.Dec.{eqb, ltb}
+use Rattle.tables.specs.Tables.{outside?}
 use Rattle.paths.specs.Operands.{first-operand, second-operand}
-use Rattle.walks.specs.Progress.{Progress, outside?}
+use Rattle.walks.specs.Progress.{Progress}
 
 -- A pass over the words, from the last to the first: the marks that are left to look at, the marks of what the message leads to, and
 -- whether it finishes.

@@ -1,9 +1,8 @@
 -- The hub's progress through a basic plan. (Request 102.)
 use Prim.Native.Nat.{ℕ, _-_, _<_}
-use mathlib.Core.Bool.{Bool, false, _||_}
+use mathlib.Core.Bool.{Bool, false}
 use mathlib.Core.List.{List}
 use lib.ListN.{length, getD, set, replicate}
-use lib.Dec.{eqb, ltb}
 
 -- "one mark byte for each word, and whether exactly those messages can end in a finish"
 pub record Progress : Type 0 where
@@ -17,7 +16,3 @@ Marked marks p = 0 < getD marks p 0
 -- "A fresh walk has one mark, at the plan's last word, and no finish reached."
 unfoldable pub fresh : List ℕ → Progress
 fresh plan = record { marks = set (replicate (length plan) 0) (length plan - 1) 1; finish = false }
-
--- "an action outside 1 to n"
-abbrev pub outside? : ℕ → ℕ → Bool
-outside? n m = eqb m 0 || ltb n m

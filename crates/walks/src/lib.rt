@@ -2,17 +2,14 @@
 ghost use mathlib.Core.Path.{_≡_};
 ghost use mathlib.Core.Bool.{false, _||_};
 ghost use lib.ListN.{length};
-ghost use Rattle.refusals.specs.Refusal.{judged, refuse};
-ghost use Rattle.refusals.specs.declared.Place.the-variants.{Nowhere};
+ghost use Rattle.refusals.specs.Refusal.{judged};
 ghost use Rattle.areas.specs.Area.{most-words};
-ghost use Rattle.walks.specs.Progress.{outside?};
+ghost use Rattle.tables.specs.Tables.{outside?};
 ghost use Rattle.walks.specs.Pass.{some-mark, take-message};
 ghost use Rattle.walks.specs.Outcome.{WalkOutcome, not-walkable-refusal, fresh-outcome, walk-outcome};
 ghost use Rattle.walks.specs.Turns.{Walking, Found, message-outcome};
 use areas::MOST_WORDS;
 use refusals::Judgement;
-use refusals::Place;
-use refusals::Refusal;
 
 mod pass;
 
@@ -25,15 +22,6 @@ const OUTSIDE: u8 = 71;
 // "a message that no path goes on with".
 const NO_PATH: u8 = 72;
 
-fn refused(number: u8) -> Judgement
-    ensures { λ r. ⌜ r ≡ judged (refuse number Nowhere) ⌝ }
-{
-    Judgement::Refused(Refusal {
-        number,
-        place: Place::Nowhere,
-    })
-}
-
 // Judges the tables and the plan, then whether the plan is basic and each of its words has one mark byte.
 fn judge_walk(tables: &[u8], plan: &[u8], marks: &[u8]) -> Judgement
     ensures { λ r. ⌜ r ≡ judged (not-walkable-refusal (now (tables .entry)) (now (plan .entry)) (now (marks .entry))) ⌝ }
@@ -43,12 +31,12 @@ fn judge_walk(tables: &[u8], plan: &[u8], marks: &[u8]) -> Judgement
         return judgement;
     }
     if !plans::basic_words(tables::actions_of(tables), plan) {
-        return refused(NOT_WALKABLE);
+        return refusals::refused(NOT_WALKABLE);
     }
     if marks.len() == plan.len() {
         Judgement::Accepted
     } else {
-        refused(NOT_WALKABLE)
+        refusals::refused(NOT_WALKABLE)
     }
 }
 
@@ -117,7 +105,7 @@ fn take_message(
         *finished = finishes;
         Judgement::Accepted
     } else {
-        refused(NO_PATH)
+        refusals::refused(NO_PATH)
     }
 }
 
@@ -140,11 +128,8 @@ pub fn walk(
         return judgement;
     }
     let n = tables::actions_of(tables);
-    if message == 0 {
-        return refused(OUTSIDE);
-    }
-    if n < message {
-        return refused(OUTSIDE);
+    if tables::is_outside(n, message) {
+        return refusals::refused(OUTSIDE);
     }
     let mut held = [0u8; MOST_WORDS];
     take_message(n, plan, marks, message, &mut held, finished)

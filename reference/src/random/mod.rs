@@ -1,8 +1,9 @@
-//! Seeded random tables, plans, rewritings, files, texts, walks and whole cases, for comparing
-//! implementations. They stay close to the edges of what is accepted.
+//! Seeded random tables, plans, rewritings, files, texts, walks, pairs of actions and whole cases,
+//! for comparing implementations. They stay close to the edges of what is accepted.
 
 pub mod cases;
 pub mod plans;
+pub mod precedence;
 pub mod rewritings;
 pub mod tables;
 pub mod texts;

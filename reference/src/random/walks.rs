@@ -204,7 +204,7 @@ pub fn tables_and_plan(random: &mut Random) -> (Vec<u8>, Vec<u8>) {
 }
 
 /// The count of actions, also where it is damaged or not there.
-fn count(tables: &[u8]) -> u8 {
+pub fn count(tables: &[u8]) -> u8 {
     tables.first().copied().unwrap_or(1).clamp(1, MOST_ACTIONS)
 }
 

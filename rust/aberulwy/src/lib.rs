@@ -3,9 +3,10 @@
 //! The library judges *tables* (2,305 bytes: communication, priority, blocked sets) and
 //! *plans* (postfix words, one byte each), unfolds a plan to a basic one by laws 5 to 32,
 //! records the steps, checks anybody's rewriting by all thirty-two laws, reads and lists station
-//! files, reads plans typed in signs, and walks through a basic plan message by message. Every call
-//! takes slices of any length; what is malformed is refused with a number and a place, and then
-//! nothing lent is changed. Nothing is allocated.
+//! files, reads plans typed in signs, walks through a basic plan message by message, and says
+//! whether one action comes before another on all its paths. Every call takes slices of any length;
+//! what is malformed is refused with a number and a place, and then nothing lent is changed.
+//! Nothing is allocated.
 //!
 //! ```
 //! use aberulwy::{unfold, Ending};
@@ -39,6 +40,8 @@
 //!
 //! A hub that follows a basic plan keeps its progress as a mark byte for each word, and whether a
 //! finish is reached: [`fresh_walk`] begins it, and [`walk`] takes one message after the other.
+//! Before any message, [`precedes`] tells whether a photograph can overtake its weight: whether on
+//! some path of the plan one action comes with none of another before it.
 //!
 //! The repository's `docs/FORMATS.md` draws tables, plans, texts, rewritings, areas, marks and
 //! station files, and `docs/NUMBERS.md` lists the words, the laws, the endings and the refusals.
@@ -46,9 +49,9 @@
 //! # Stack
 //!
 //! Allow 640 KiB for [`list_station`], 512 KiB for [`unfold`] and [`unfold_checked`], 192 KiB
-//! for [`read_text`], 128 KiB for [`check_rewriting`] and [`walk`], and 64 KiB for each other
-//! call; `include/aberulwy.h` has what was measured. The default of a Rust thread (2 MiB) is
-//! enough for all of them.
+//! for [`read_text`], 128 KiB for [`check_rewriting`] and [`walk`], 96 KiB for [`precedes`], and
+//! 64 KiB for each other call; `include/aberulwy.h` has what was measured. The default of a Rust
+//! thread (2 MiB) is enough for all of them.
 //!
 //! # Linking
 //!
@@ -63,6 +66,7 @@
 mod checking;
 pub mod examples;
 mod judging;
+mod precedence;
 pub mod raw;
 mod refusals;
 mod stations;
@@ -72,6 +76,7 @@ mod walks;
 
 pub use checking::{check_rewriting, Checked, Verdict};
 pub use judging::{count_orders, is_basic, judge_plan, judge_tables, Counts};
+pub use precedence::{precedes, Precedence};
 pub use refusals::{Place, Refusal};
 pub use stations::{list_station, read_station};
 pub use texts::read_text;

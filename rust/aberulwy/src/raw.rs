@@ -46,6 +46,20 @@ pub struct CountedPaths {
     pub place: usize,
 }
 
+/// The answer of a call that asks whether one action precedes another.
+#[derive(Clone, Copy, Debug, PartialEq, Eq)]
+pub struct Preceded {
+    /// 0, or the number of the refusal.
+    pub number: u8,
+    /// 1 where it is yes; 0 where it is no, and where refused.
+    pub yes: usize,
+    /// Under no, the least place of an appearance of the second action that has none of the first
+    /// before it; 0 where it is yes, and where refused.
+    pub at: usize,
+    /// The printed place of the refusal; 0 where none is named.
+    pub place: usize,
+}
+
 /// The answer of a call that makes steps.
 #[derive(Clone, Copy, Debug, PartialEq, Eq)]
 pub struct Ended {
@@ -241,6 +255,18 @@ mod archive {
             marks_len: usize,
             message: u8,
             finished: *mut usize,
+            place: *mut usize,
+        ) -> u8;
+
+        pub fn aberulwy_precedes(
+            tables: *const u8,
+            tables_len: usize,
+            plan: *const u8,
+            plan_len: usize,
+            first: u8,
+            second: u8,
+            yes: *mut usize,
+            at: *mut usize,
             place: *mut usize,
         ) -> u8;
     }
@@ -707,6 +733,50 @@ pub fn walk(
         )
     };
     Judged { number, place }
+}
+
+/// Whether on every path of a basic plan each appearance of the second action has the first before
+/// it (`yes` 1) or not (0, and `at` the least place of one that has none): 0; or 1 to 8, 11 to 14,
+/// then 73, then 70.
+///
+/// ```
+/// use aberulwy::raw::{precedes, Preceded};
+///
+/// let tables = aberulwy::examples::trial_tables();
+/// // 1·2 + 3·2: the 2 of the second summand has no 1 before it.
+/// let plan = [1, 2, 65, 3, 2, 65, 64];
+/// let no = Preceded { number: 0, yes: 0, at: 4, place: 0 };
+/// assert_eq!(precedes(&tables, &plan, 1, 2), no);
+/// // No 4 appears.
+/// let yes = Preceded { number: 0, yes: 1, at: 0, place: 0 };
+/// assert_eq!(precedes(&tables, &plan, 1, 4), yes);
+/// // Equal actions; and a merge, which is not basic.
+/// let refused = |number| Preceded { number, yes: 0, at: 0, place: 0 };
+/// assert_eq!(precedes(&tables, &plan, 2, 2), refused(73));
+/// assert_eq!(precedes(&tables, &[1, 2, 66], 1, 2), refused(70));
+/// ```
+pub fn precedes(tables: &[u8], plan: &[u8], first: u8, second: u8) -> Preceded {
+    let (mut yes, mut at, mut place) = (NOT_SET, NOT_SET, NOT_SET);
+    // SAFETY: see the head of this file.
+    let number = unsafe {
+        archive::aberulwy_precedes(
+            tables.as_ptr(),
+            tables.len(),
+            plan.as_ptr(),
+            plan.len(),
+            first,
+            second,
+            &mut yes,
+            &mut at,
+            &mut place,
+        )
+    };
+    Preceded {
+        number,
+        yes,
+        at,
+        place,
+    }
 }
 
 /// Lists a station file, zeros behind: 0; or 1 with every lent byte kept, where the area is

@@ -134,9 +134,10 @@ impl Refusal {
             61 => "the text is no plan: it goes wrong at this place",
             62 => "a bracket of the text goes deeper than 200",
             63 => "the text's plan is longer than its area or than 16,384 words",
-            70 => "the plan is not basic, or the marks are of another length",
+            70 => "the plan is not basic, or the marks of a walk are of another length",
             71 => "the message is an action outside 1 to n",
             72 => "no path goes on with the message",
+            73 => "the two actions are equal, or one of them is outside 1 to n",
             _ => "an unlisted reason",
         }
     }
@@ -171,7 +172,7 @@ mod tests {
         assert_eq!(Refusal::new(55, 0).place(), Place::Nowhere);
         assert_eq!(Refusal::new(61, 7).place(), Place::Byte(7));
         assert_eq!(Refusal::new(62, 201).place(), Place::Byte(201));
-        for number in [63, 70, 71, 72] {
+        for number in [63, 70, 71, 72, 73] {
             assert_eq!(Refusal::new(number, 0).place(), Place::Nowhere);
         }
     }

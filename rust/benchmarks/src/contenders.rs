@@ -3,11 +3,13 @@
 
 use crate::plain;
 use reference::plans::{self, Counts};
+use reference::precedence::{self, Precedence};
 use reference::{checking, texts, unfolding, walks, Refusal};
 
 /// How a call ended: number, steps, words of the plan reached or read. Of a walk, the last is 1
 /// where a finish is reached, and else 0; of a question whether a plan is basic, 1 where it is. Of
-/// a count, the last two are orders and stuck paths; of a judgement, both are 0.
+/// a count, the last two are orders and stuck paths; of a question whether one action comes before
+/// another, 1 for yes and 0 for no, and the place under no; of a judgement, both are 0.
 pub type Ended = (u8, usize, usize);
 /// Unfolds: tables, plan, allowance, list, areas A and B.
 pub type Unfold = fn(&[u8], &[u8], u32, &mut [u8], &mut [u8], &mut [u8]) -> Ended;
@@ -21,6 +23,9 @@ pub type Begin = fn(&[u8], &[u8], &mut [u8]) -> Ended;
 pub type Bring = fn(&[u8], &[u8], &mut [u8], u8) -> Ended;
 /// Asks something of a plan: tables, plan. It makes no steps.
 pub type Ask = fn(&[u8], &[u8]) -> Ended;
+/// Asks whether one action comes before another: tables, plan, first and second action. It makes no
+/// steps.
+pub type AskOfTwo = fn(&[u8], &[u8], u8, u8) -> Ended;
 
 /// An implementation to measure.
 #[derive(Clone, Copy)]
@@ -41,6 +46,8 @@ pub struct Contender {
     pub is_basic: Ask,
     /// Its count of orders and stuck paths.
     pub count_orders: Ask,
+    /// Whether one action comes before another.
+    pub precedes: AskOfTwo,
 }
 
 /// The unverified version in plain Rust.
@@ -63,6 +70,7 @@ pub const PLAIN: Contender = Contender {
     judge_plan: |tables, plan| judged(plans::judge(tables, plan)),
     is_basic: |tables, plan| read(plain::is_basic(tables, plan).map(usize::from)),
     count_orders: |tables, plan| counted(plain::count_orders(tables, plan)),
+    precedes: |tables, plan, first, second| preceded(plain::precedes(tables, plan, first, second)),
 };
 
 /// The second implementation, written for comparison.
@@ -85,6 +93,9 @@ pub const REFERENCE: Contender = Contender {
     judge_plan: |tables, plan| judged(plans::judge(tables, plan)),
     is_basic: |tables, plan| read(plans::judged_basic(tables, plan).map(usize::from)),
     count_orders: |tables, plan| counted(plans::judged_orders(tables, plan)),
+    precedes: |tables, plan, first, second| {
+        preceded(precedence::precedes(tables, plan, first, second))
+    },
 };
 
 fn unfolded(answer: unfolding::Answer) -> Ended {
@@ -124,6 +135,14 @@ fn judged(answer: Result<(), Refusal>) -> Ended {
 fn counted(answer: Result<Counts, Refusal>) -> Ended {
     match answer {
         Ok(Counts { orders, stuck }) => (0, orders, stuck),
+        Err(refusal) => (refusal.number, 0, 0),
+    }
+}
+
+fn preceded(answer: Result<Precedence, Refusal>) -> Ended {
+    match answer {
+        Ok(Precedence::Yes) => (0, 1, 0),
+        Ok(Precedence::No { at }) => (0, 0, at),
         Err(refusal) => (refusal.number, 0, 0),
     }
 }
@@ -174,5 +193,9 @@ pub const PROVED: Option<Contender> = Some(Contender {
     count_orders: |tables, plan| {
         let paths = aberulwy::raw::count_orders(tables, plan);
         (paths.number, paths.orders, paths.stuck)
+    },
+    precedes: |tables, plan, first, second| {
+        let answer = aberulwy::raw::precedes(tables, plan, first, second);
+        (answer.number, answer.yes, answer.at)
     },
 });

@@ -1,15 +1,16 @@
 //! Prints, as Markdown tables, what a step takes: in the proved library, in an unverified plain
 //! Rust version of the same algorithm, and in Maude; and what a character of a text, a message to
-//! a walk, a judgement of a plan and a count of paths take in the first two. Ends at the first call
-//! on which the proved library and the plain version differ.
+//! a walk, a judgement of a plan, a count of paths and a question whether one action comes before
+//! another take in the first two. Ends at the first call on which the proved library and the plain
+//! version differ.
 
 use benchmarks::contenders::{PLAIN, PROVED, REFERENCE};
 use benchmarks::maude;
 use benchmarks::measuring::{cell, least_times, mean};
 use benchmarks::workloads::{
     counts, growing_sums, judgements, merges_in_growing_areas, merges_of_longer_chains,
-    single_action, sizes, sum_tables, texts, walks, Places, Reading, Replay, Unfolding, Workload,
-    REPLAYED,
+    precedences, single_action, sizes, sum_tables, texts, walks, Places, Reading, Replay,
+    Unfolding, Workload, REPLAYED,
 };
 use reference::plans::LONGEST_PLAN;
 use reference::tables::{actions, trial_tables};
@@ -27,12 +28,14 @@ fn main() {
     );
     println!("plan of one action. Maude: its own report, for one of many reductions of the plan;");
     println!(
-        "rewrites are the equations that it used for one. The last five tables are of texts, for"
+        "rewrites are the equations that it used for one. The last six tables are of texts, for"
     );
     println!(
-        "a call and for a character, and of messages to walks, judgements of plans and counts of"
+        "a call and for a character, and of messages to walks, judgements of plans, counts of"
     );
-    println!("paths, for a call and for a word.");
+    println!(
+        "paths and questions whether one action comes before another, for a call and for a word."
+    );
     match PROVED {
         Some(_) => println!("\nIn each row the proved library and the plain version were first called once each, and\nagreed in every number answered and in every lent byte."),
         None => println!("\nThe proved library is left out: build with `--features archive` to link it."),
@@ -51,6 +54,7 @@ fn main() {
     messages();
     judged_plans();
     counted_paths();
+    preceding_actions();
 }
 
 /// What the proved library and the plain version take.
@@ -415,4 +419,37 @@ fn counted_paths() {
     }
     let [call, judging] = ratios.map(|ratios| cell(mean(&ratios)));
     println!("| geometric mean | | | | {call} | | | | | | {judging} |");
+}
+
+fn preceding_actions() {
+    println!("\n### Precedence: one action before another\n");
+    println!(
+        "Nanoseconds for the call, which judges tables, plan and whether it is basic, and for a word"
+    );
+    println!(
+        "of the plan: of the call, and of the words alone, which is the call less the same call with"
+    );
+    println!(
+        "a plan of one action. Two pairs of actions are asked about in each plan: for one the answer"
+    );
+    println!(
+        "is yes, for the other no, with a place at the front. Behind the judging the plain version"
+    );
+    println!(
+        "takes one pass over the words, and the library two. Crusted coin: the plan that the bench"
+    );
+    println!(
+        "comes to. Deep: a chain of actions. Wide: a sum of products. Random: sums and products,"
+    );
+    println!("drawn at random.\n");
+    println!("| plan | words | answer | call: proved | plain | proved/plain | a word: proved | plain | words alone: proved | plain | proved/plain |");
+    println!("|---|--:|---|--:|--:|--:|--:|--:|--:|--:|--:|");
+    let mut ratios: [Vec<f64>; 2] = Default::default();
+    for (cells, asking) in precedences() {
+        let words = asking.plan.len();
+        let without_words = asking.of_one_action();
+        row_by_parts(&cells, asking, without_words, words, &mut ratios);
+    }
+    let [call, alone] = ratios.map(|ratios| cell(mean(&ratios)));
+    println!("| geometric mean | | | | | {call} | | | | | {alone} |");
 }

@@ -1,5 +1,5 @@
 //! Calls to measure: plans to unfold, rewritings to replay, texts to read, messages to walks, plans
-//! to judge and paths to count.
+//! to judge, paths to count and actions to come before others.
 
 use crate::contenders::{Ask, Contender, Ended, PLAIN};
 use reference::plans::{
@@ -752,6 +752,104 @@ pub fn counts() -> Vec<(String, Asking)> {
     plans.into_iter().map(with_cells).collect()
 }
 
+/// A question whether one action comes before another. Nothing is lent.
+pub struct Preceding {
+    tables: Vec<u8>,
+    /// The plan.
+    pub plan: Vec<u8>,
+    /// The action that is to come before, and the one behind it.
+    pair: (u8, u8),
+}
+
+impl Preceding {
+    /// Asks the same of a plan of one action, under the same tables.
+    pub fn of_one_action(&self) -> Preceding {
+        Preceding {
+            tables: self.tables.clone(),
+            plan: vec![1],
+            pair: self.pair,
+        }
+    }
+}
+
+impl Workload for Preceding {
+    fn run(&mut self, contender: Contender) -> Ended {
+        let (first, second) = self.pair;
+        (contender.precedes)(&self.tables, &self.plan, first, second)
+    }
+
+    fn lent(&mut self) -> Vec<&mut [u8]> {
+        Vec::new()
+    }
+}
+
+/// A basic plan of so many words over four actions, drawn at random: of the signs two in three are
+/// sums, of parts of any size, and the others products.
+fn random_basic_plan(words: usize) -> Vec<u8> {
+    let random = &mut Random::new(1);
+    let mut backwards = Vec::with_capacity(words);
+    // How many actions each part has.
+    let mut waiting = vec![words.div_ceil(2)];
+    while let Some(actions) = waiting.pop() {
+        if actions == 1 {
+            backwards.push(random.between(1, 4) as u8);
+        } else if random.once_in(3) {
+            backwards.push(PRODUCT);
+            waiting.extend([1, actions - 1]);
+        } else {
+            backwards.push(CHOICE);
+            let left = random.between(1, actions - 1);
+            waiting.extend([left, actions - left]);
+        }
+    }
+    backwards.reverse();
+    backwards
+}
+
+/// A plan with action 1 so many times before it.
+fn behind_ones(ones: usize, plan: Vec<u8>) -> Vec<u8> {
+    [vec![1; ones], plan, vec![PRODUCT; ones]].concat()
+}
+
+/// A question about the first pair, which gets a yes, and one about the second, which gets a no; each
+/// with the cells that name it.
+fn yes_and_no(
+    name: &str,
+    tables: Vec<u8>,
+    plan: Vec<u8>,
+    pairs: [(u8, u8); 2],
+) -> [(String, Preceding); 2] {
+    [("yes", pairs[0]), ("no", pairs[1])].map(|(answer, pair)| {
+        let cells = format!("{name} | {} | {answer}", plan.len());
+        let (tables, plan) = (tables.clone(), plan.clone());
+        (cells, Preceding { tables, plan, pair })
+    })
+}
+
+/// Messages of the bench: the weight of the first coin, and the photograph of the next one.
+const WEIGHT: u8 = 3;
+const NEXT_PHOTOGRAPH: u8 = 9;
+
+/// The questions measured, each with the cells that name it: plan, words and answer. The bench's
+/// balance settles before each weight, and its hub lets the photograph overtake the weight. The
+/// other plans begin with action 1 alone: it comes before each 2, and has no 2 before it.
+pub fn precedences() -> Vec<(String, Preceding)> {
+    let (tables, plan) = bench();
+    let pairs = [(SETTLES, WEIGHT), (WEIGHT, NEXT_PHOTOGRAPH)];
+    let mut asked = Vec::from(yes_and_no("crusted coin", tables, plan, pairs));
+    let lengths = || {
+        let odd = sizes().map(|size| size - 1);
+        odd.filter(|&words| words >= WALKED[0])
+    };
+    let deep = lengths().map(|words| ("deep", deep_plan(words)));
+    let wide = lengths().map(|words| ("wide", behind_ones(2, wide_plan(words - 4))));
+    let random = lengths().map(|words| ("random", behind_ones(1, random_basic_plan(words - 2))));
+    for (name, plan) in deep.chain(wide).chain(random) {
+        asked.extend(yes_and_no(name, trial_tables(), plan, [(1, 2), (2, 1)]));
+    }
+    asked
+}
+
 #[cfg(test)]
 mod tests {
     use super::*;
@@ -876,6 +974,27 @@ mod tests {
             assert_eq!(cells, name);
             assert_eq!(counting.whether_basic().run(PLAIN), (0, 0, 1), "{name}");
             assert_eq!(counting.run(PLAIN), (0, orders, stuck), "{name}");
+        }
+    }
+
+    #[test]
+    fn actions_come_before_others_in_basic_plans_of_these_lengths() {
+        let asked = precedences();
+        let lengths: Vec<usize> = asked.iter().map(|(_, asking)| asking.plan.len()).collect();
+        let doubling = [1023, 2047, 4095, 8191, 16_383];
+        let wanted = [vec![45], doubling.repeat(3)].concat();
+        let wanted: Vec<[usize; 2]> = wanted.iter().map(|&words| [words, words]).collect();
+        assert_eq!(lengths, wanted.concat());
+        for (name, mut asking) in asked {
+            assert!(is_basic(&asking.plan), "{name}");
+            assert!(asking.plan.contains(&asking.pair.1), "{name}");
+            let wanted = match &name[..] {
+                "crusted coin | 45 | no" => (0, 0, 2),
+                no if no.ends_with("no") => (0, 0, 0),
+                _ => (0, 1, 0),
+            };
+            assert_eq!(asking.run(PLAIN), wanted, "{name}");
+            assert_eq!(asking.of_one_action().run(PLAIN).0, 0, "{name}");
         }
     }
 }

@@ -4,13 +4,13 @@
 use benchmarks::contenders::{Contender, PLAIN, REFERENCE};
 use benchmarks::plain;
 use benchmarks::workloads::{
-    counts, stopped_merges, texts, walks, Unfolding, Workload, MERGES, STOPPED_CHAINS,
+    counts, precedences, stopped_merges, texts, walks, Unfolding, Workload, MERGES, STOPPED_CHAINS,
 };
 use differential::{compare, Answer, Call, Implementation, Reference};
 use reference::plans::LONGEST_PLAN;
 
-/// The plain version's unfolding, checker, reader of texts, walks and counts; the other calls are
-/// the reference's.
+/// The plain version's unfolding, checker, reader of texts, walks, counts and precedence; the other
+/// calls are the reference's.
 struct Plain;
 
 impl Implementation for Plain {
@@ -37,6 +37,9 @@ impl Implementation for Plain {
                 Answer::counted(plain::is_basic(tables, plan).map(usize::from))
             }
             Call::CountOrders(tables, plan) => Answer::paths(plain::count_orders(tables, plan)),
+            Call::Precedes(tables, plan, first, second) => {
+                Answer::precedence(plain::precedes(tables, plan, first, second))
+            }
             other => Reference.answer(other),
         }
     }
@@ -95,6 +98,14 @@ fn counts_agree_with_the_reference() {
     }
 }
 
+/// The questions of the benchmark whether one action comes before another.
+#[test]
+fn precedences_agree_with_the_reference() {
+    for (name, mut asking) in precedences() {
+        assert_eq!(asking.run(PLAIN), asking.run(REFERENCE), "{name}");
+    }
+}
+
 /// The judgements of the benchmark.
 #[cfg(feature = "archive")]
 #[test]
@@ -114,6 +125,16 @@ fn counts_agree_with_the_proved_library() {
         assert_eq!(counting.run(PLAIN), counting.run(proved), "{name}");
         let mut judging = counting.whether_basic();
         assert_eq!(judging.run(PLAIN), judging.run(proved), "{name}");
+    }
+}
+
+/// The questions of the benchmark whether one action comes before another.
+#[cfg(feature = "archive")]
+#[test]
+fn precedences_agree_with_the_proved_library() {
+    let proved = benchmarks::contenders::PROVED.expect("the archive is linked");
+    for (name, mut asking) in precedences() {
+        assert_eq!(asking.run(PLAIN), asking.run(proved), "{name}");
     }
 }
 

@@ -1,6 +1,7 @@
 //! What the calls answer, in a form that all implementations share.
 
 use reference::plans::Counts;
+use reference::precedence::Precedence;
 use reference::{checking, unfolding, Refusal};
 
 /// What a call answers: every number that it sets.
@@ -9,8 +10,8 @@ pub struct Answer {
     /// 0, or the number of the refusal or of the ending; of a call that hands bytes over, 0,
     /// or 1 where the area is too short.
     pub number: u8,
-    /// Steps and size; or orders and stuck paths; or the one number asked for, then 0; 0 where
-    /// refused.
+    /// Steps and size; or orders and stuck paths; or 1 for yes and 0 for no, and the place under
+    /// no; or the one number asked for, then 0; 0 where refused.
     pub values: [usize; 2],
     /// The printed place; 0 where none is named.
     pub place: usize,
@@ -72,6 +73,15 @@ impl Answer {
     pub fn paths(result: Result<Counts, Refusal>) -> Answer {
         match result {
             Ok(Counts { orders, stuck }) => Answer::ended(0, [orders, stuck]),
+            Err(refusal) => Answer::refused(refusal),
+        }
+    }
+
+    /// Yes, or no and a place; or a refusal.
+    pub fn precedence(result: Result<Precedence, Refusal>) -> Answer {
+        match result {
+            Ok(Precedence::Yes) => Answer::ended(0, [1, 0]),
+            Ok(Precedence::No { at }) => Answer::ended(0, [0, at]),
             Err(refusal) => Answer::refused(refusal),
         }
     }
@@ -150,6 +160,18 @@ impl From<aberulwy::raw::CountedPaths> for Answer {
             number: paths.number,
             values: [paths.orders, paths.stuck],
             place: paths.place,
+            own: [0; 5],
+        }
+    }
+}
+
+#[cfg(feature = "archive")]
+impl From<aberulwy::raw::Preceded> for Answer {
+    fn from(preceded: aberulwy::raw::Preceded) -> Answer {
+        Answer {
+            number: preceded.number,
+            values: [preceded.yes, preceded.at],
+            place: preceded.place,
             own: [0; 5],
         }
     }

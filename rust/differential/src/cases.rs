@@ -9,6 +9,7 @@ use reference::random::cases::{
     CheckCase, StationCase, UnfoldCase,
 };
 use reference::random::plans::{basic_plan, plan, repeating_basic_plan};
+use reference::random::precedence::{precedence_case, PrecedenceCase};
 use reference::random::rewritings::{damage_rewriting, derivation};
 use reference::random::tables::{damaged_tables, lawful_tables};
 use reference::random::texts::{long_text, text_case, text_case_of, TextCase};
@@ -51,6 +52,8 @@ pub enum Case {
     /// A walk to begin, and messages to it, each handed the marks and the finish that the call
     /// before left.
     Messages(MessagesCase),
+    /// Two actions, of which the first is to come before the second in a plan.
+    Precedes(PrecedenceCase),
 }
 
 /// What is handed to the unfolding with a check.
@@ -127,7 +130,7 @@ impl Case {
     /// The case of this seed.
     pub fn draw(seed: u64) -> Case {
         let random = &mut Random::new(seed);
-        match random.below(28) {
+        match random.below(30) {
             0 => Case::JudgeTables(any_tables(random)),
             1 | 2 => {
                 let (tables, plan) = handed_in(random);
@@ -157,7 +160,8 @@ impl Case {
             20..=22 => Case::ReadText(any_text(random)),
             23 => Case::FreshWalk(fresh_walk_case(random)),
             24 | 25 => Case::Walk(walk_case(random)),
-            _ => Case::Messages(messages_case(random)),
+            26 | 27 => Case::Messages(messages_case(random)),
+            _ => Case::Precedes(precedence_case(random)),
         }
     }
 
@@ -206,6 +210,9 @@ impl Case {
             }
             (Case::ListStation(case), [out]) => Call::ListStation(&case.file, out),
             (Case::ReadText(case), [plan]) => Call::ReadText(&case.tables, &case.text, plan),
+            (Case::Precedes(case), _) => {
+                Call::Precedes(&case.tables, &case.plan, case.first, case.second)
+            }
             _ => unreachable!("each case lends what its call takes"),
         };
         let answer = implementation.answer(call);

@@ -1,7 +1,9 @@
 //! What is compared: implementations of the calls.
 
 use crate::answers::Answer;
-use reference::{checking, own, plans, runs, stations, tables, texts, unfolding, walks};
+use reference::{
+    checking, own, plans, precedence, runs, stations, tables, texts, unfolding, walks,
+};
 
 /// One call, with what is handed to it in the order of its parameters. It may change what is
 /// mutable alone.
@@ -57,6 +59,9 @@ pub enum Call<'c> {
     FreshWalk(&'c [u8], &'c [u8], &'c mut [u8], &'c mut usize),
     /// Brings a message to a walk: tables, plan, marks, message, the number of the finish.
     Walk(&'c [u8], &'c [u8], &'c mut [u8], u8, &'c mut usize),
+    /// Whether one action precedes another: tables, plan, first and second action; answers 1 for
+    /// yes and 0 for no, and the place under no.
+    Precedes(&'c [u8], &'c [u8], u8, u8),
 }
 
 /// Whatever answers all calls. One that has only some of them hands the others on to another one.
@@ -114,6 +119,9 @@ impl Implementation for Reference {
                     walks::walk(tables, plan, marks, message, finished)
                 })
             }
+            Call::Precedes(tables, plan, first, second) => {
+                Answer::precedence(precedence::precedes(tables, plan, first, second))
+            }
         }
     }
 }
@@ -156,6 +164,9 @@ impl Implementation for Proved {
             }
             Call::Walk(tables, plan, marks, message, finish) => {
                 raw::walk(tables, plan, marks, message, finish).into()
+            }
+            Call::Precedes(tables, plan, first, second) => {
+                raw::precedes(tables, plan, first, second).into()
             }
         }
     }

@@ -91,6 +91,10 @@ impl fmt::Display for Case {
                 fresh_walk(f, "fresh_walk, then walk", &case.fresh)?;
                 writeln!(f, "  messages: {}", Bytes(&case.messages))
             }
+            Case::Precedes(case) => {
+                judged(f, "precedes", &case.tables, &case.plan)?;
+                writeln!(f, "  first: {}, second: {}", case.first, case.second)
+            }
         }
     }
 }

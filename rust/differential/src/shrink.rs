@@ -3,12 +3,14 @@
 use crate::cases::{Case, CheckedCase, ListCase, ReachedCase};
 use reference::plans::{judge, operands, subplan, LONGEST_PLAN};
 use reference::random::cases::{CheckCase, StationCase, UnfoldCase};
+use reference::random::precedence::PrecedenceCase;
 use reference::random::texts::TextCase;
 use reference::random::walks::{FreshWalkCase, MessagesCase, WalkCase};
 use reference::stations::{read_station, write_station};
 use reference::tables::{trial_tables, TABLES_LENGTH};
 use reference::texts::{read_text, typed};
 use reference::unfolding::RECORD;
+use std::cmp::Reverse;
 use std::iter;
 use std::ops::Range;
 
@@ -52,6 +54,7 @@ fn smaller(case: &Case) -> Vec<Case> {
         Case::FreshWalk(case) => each(smaller_fresh_walks(case), Case::FreshWalk),
         Case::Walk(case) => smaller_walks(case),
         Case::Messages(case) => smaller_messages(case),
+        Case::Precedes(case) => smaller_precedences(case),
     };
     found.retain(|case| weight(case) < size);
     found
@@ -90,6 +93,9 @@ fn weight(case: &Case) -> u64 {
             bytes(&[&case.tables, &case.plan, &case.marks]) + odd + u64::from(case.finished)
         }
         Case::Messages(case) => fresh_walk_weight(&case.fresh) + bytes(&[&case.messages]),
+        Case::Precedes(case) => {
+            bytes(&[&case.tables, &case.plan]) + u64::from(case.first) + u64::from(case.second)
+        }
     }
 }
 
@@ -254,6 +260,24 @@ fn smaller_messages(case: &MessagesCase) -> Vec<Case> {
     each(changed.found, Case::Messages)
 }
 
+fn smaller_precedences(case: &PrecedenceCase) -> Vec<Case> {
+    let [first, second] = [case.first, case.second].map(smaller_actions);
+    let changed = Changed::of(case)
+        .with(smaller_plans(&case.plan), |case, plan| case.plan = plan)
+        .with(first.clone(), |case, action| {
+            exchange(case, case.first, action)
+        })
+        .with(second.clone(), |case, action| {
+            exchange(case, case.second, action)
+        })
+        .with(first, |case, action| case.first = action)
+        .with(second, |case, action| case.second = action)
+        .with(smaller_tables(&case.tables), |case, tables| {
+            case.tables = tables
+        });
+    each(changed.found, Case::Precedes)
+}
+
 fn smaller_checks(case: &CheckCase) -> Vec<Case> {
     let rewritings = smaller_rewritings(&case.rewriting);
     let changed = Changed::of(case)
@@ -292,6 +316,26 @@ fn smaller_numbers(number: usize) -> Vec<usize> {
     found.dedup();
     found.retain(|&smaller| smaller < number);
     found
+}
+
+/// Dead stop, the first two actions, a half, one less.
+fn smaller_actions(action: u8) -> Vec<u8> {
+    let mut found = vec![0, 1, 2, action / 2, action.saturating_sub(1)];
+    found.retain(|&smaller| smaller < action);
+    found
+}
+
+/// Puts one action in the place of another, and the other in its place, among the two that are
+/// asked for and in the plan.
+fn exchange(case: &mut PrecedenceCase, one: u8, other: u8) {
+    let asked = [&mut case.first, &mut case.second];
+    for action in asked.into_iter().chain(&mut case.plan) {
+        match *action {
+            _ if *action == one => *action = other,
+            _ if *action == other => *action = one,
+            _ => {}
+        }
+    }
 }
 
 /// Shorter lent slices, and the slice with all bytes alike.
@@ -378,6 +422,11 @@ impl Cut {
             None => [before, &[instead], behind].concat(),
         }
     }
+
+    /// How many bytes are left out.
+    fn less(&self) -> usize {
+        self.whole.len() - self.kept.as_ref().map_or(1, Range::len)
+    }
 }
 
 /// A range left out.
@@ -390,24 +439,51 @@ fn left_out(whole: Range<usize>) -> Cut {
 fn cuts(plan: &[u8]) -> Vec<Cut> {
     let mut found = Vec::new();
     if judge(&any_actions(), plan).is_ok() {
+        found.extend(bold_cuts(plan));
         for place in (0..plan.len()).rev().take(64) {
-            let whole = place + 1 - subplan(plan, place).len()..place + 1;
-            let mut end = place;
-            for _ in 0..operands(plan[place]) {
-                let from = end - subplan(plan, end - 1).len();
-                found.push(Cut {
-                    whole: whole.clone(),
-                    kept: Some(from..end),
-                });
-                end = from;
-            }
-            found.push(Cut { whole, kept: None });
+            found.extend(cuts_at(plan, place));
         }
     } else {
         let lengths = smaller_numbers(plan.len()).into_iter();
         found.extend(lengths.map(|length| left_out(length..plan.len())));
         found.extend((0..plan.len().min(64)).map(|at| left_out(at..at + 1)));
     }
+    found
+}
+
+/// Of the subplan at a place one operand is kept, or one byte stands for it.
+fn cuts_at(plan: &[u8], place: usize) -> Vec<Cut> {
+    let whole = place + 1 - subplan(plan, place).len()..place + 1;
+    let (mut found, mut end) = (Vec::new(), place);
+    for _ in 0..operands(plan[place]) {
+        let from = end - subplan(plan, end - 1).len();
+        found.push(Cut {
+            whole: whole.clone(),
+            kept: Some(from..end),
+        });
+        end = from;
+    }
+    found.push(Cut { whole, kept: None });
+    found
+}
+
+/// Of a long plan, the subplans at a few places all over it, and the cuts there that leave out
+/// much; the most first.
+fn bold_cuts(plan: &[u8]) -> Vec<Cut> {
+    let (words, part) = (plan.len(), plan.len() / 16);
+    let mut found = Vec::new();
+    if words <= 64 {
+        return found;
+    }
+    for place in (0..words).step_by(part) {
+        found.push(Cut {
+            whole: 0..words,
+            kept: Some(place + 1 - subplan(plan, place).len()..place + 1),
+        });
+        found.extend(cuts_at(plan, place));
+    }
+    found.retain(|cut| cut.less() >= part);
+    found.sort_by_key(|cut| Reverse(cut.less()));
     found
 }
 

@@ -1,7 +1,9 @@
 //! The comparison finds damage: copies of the reference, each with one thing changed.
 
 use differential::{compare, Answer, Call, Case, Implementation, Outcome, Reference};
-use reference::plans::{is_basic, subplan};
+use reference::plans::{counts, is_basic, starts, subplan};
+use reference::precedence::Precedence;
+use reference::random::precedence::PrecedenceCase;
 use reference::random::Random;
 use reference::reading::paths_of;
 use std::collections::{BTreeMap, BTreeSet};
@@ -129,11 +131,51 @@ enum Damage {
     WalkLength,
     /// No path goes on with a message that only finishes.
     WalkEnd,
+    /// Of the places without the first action before them, the greatest is given.
+    BeforeGreatest,
+    /// Of the second action's appearances, the one at the least place alone is looked at.
+    BeforeOnce,
+    /// Yes and no are exchanged.
+    BeforeExchanged,
+    /// Under yes, the place is the plan's length.
+    BeforeYes,
+    /// Under no, the place is counted from the plan's end.
+    BeforeEnd,
+    /// A place is given in one byte.
+    BeforeByte,
+    /// Under no, the place of a refusal is set too.
+    BeforePlace,
+    /// Neither yes nor the place is set where the call is refused.
+    BeforeRefused,
+    /// The first action counts wherever it is at an earlier place, in another summand too.
+    BeforePlaces,
+    /// The first action counts behind the second too.
+    BeforeBehind,
+    /// The action right before the second alone counts.
+    BeforeNext,
+    /// A sum hands on what is before it to its second summand alone.
+    BeforeSum,
+    /// Appearances from which no path finishes are passed over.
+    BeforeStuck,
+    /// A plan without the second action is answered no.
+    BeforeNone,
+    /// A plan that is not basic counts before the two actions.
+    BeforeOrder,
+    /// The two actions count before the plan's own faults.
+    BeforeFault,
+    /// Equal actions are not refused.
+    BeforeEqual,
+    /// Dead stop may be the first action.
+    BeforeDeadStop,
+    /// The second action may be above n.
+    BeforeAbove,
+    /// The action n is outside 1 to n.
+    BeforeLast,
 }
 
 use Damage::*;
 
-const ALL: [Damage; 59] = [
+const ALL: [Damage; 79] = [
     MostActions,
     TripleWeight,
     LongestPlan,
@@ -193,6 +235,26 @@ const ALL: [Damage; 59] = [
     WalkOrder,
     WalkLength,
     WalkEnd,
+    BeforeGreatest,
+    BeforeOnce,
+    BeforeExchanged,
+    BeforeYes,
+    BeforeEnd,
+    BeforeByte,
+    BeforePlace,
+    BeforeRefused,
+    BeforePlaces,
+    BeforeBehind,
+    BeforeNext,
+    BeforeSum,
+    BeforeStuck,
+    BeforeNone,
+    BeforeOrder,
+    BeforeFault,
+    BeforeEqual,
+    BeforeDeadStop,
+    BeforeAbove,
+    BeforeLast,
 ];
 
 /// The reference with damage.
@@ -571,6 +633,88 @@ impl Damaged {
         }
         answer
     }
+
+    /// For each word of a basic plan, whether the damaged copy sees an action before it.
+    fn seen_before(&self, plan: &[u8], action: u8) -> Vec<bool> {
+        let starts = starts(plan);
+        let mut seen = vec![false; plan.len()];
+        for place in (0..plan.len()).rev() {
+            let (here, start) = (seen[place], starts[place]);
+            match plan[place] {
+                64 => {
+                    seen[starts[place - 1] - 1] = here && self.0 != BeforeSum;
+                    seen[place - 1] = here;
+                }
+                65 => {
+                    let behind = &plan[start + 1..place];
+                    seen[start] = here || self.0 == BeforeBehind && behind.contains(&action);
+                    seen[place - 1] = plan[start] == action || here && self.0 != BeforeNext;
+                }
+                _ => {}
+            }
+        }
+        seen
+    }
+
+    /// The damaged copy's answer to a plan, basic or not, whatever the two actions are.
+    fn precedence(&self, plan: &[u8], first: u8, second: u8) -> Answer {
+        if !is_basic(plan) {
+            return refusal(70);
+        }
+        let seen = self.seen_before(plan, first);
+        let mut appears = (0..plan.len()).filter(|&place| plan[place] == second);
+        let overtakes = |place: &usize| match self.0 {
+            BeforePlaces => !plan[..*place].contains(&first),
+            BeforeStuck => !seen[*place] && !is_stuck(plan, *place),
+            _ => !seen[*place],
+        };
+        let found = match self.0 {
+            BeforeGreatest => appears.rfind(overtakes),
+            BeforeOnce => appears.next().filter(overtakes),
+            _ => appears.find(overtakes),
+        };
+        Answer::precedence(Ok(match found {
+            None => Precedence::Yes,
+            Some(at) => Precedence::No { at },
+        }))
+    }
+
+    fn precedes(&self, tables: &[u8], plan: &[u8], first: u8, second: u8) -> Answer {
+        let mut answer = Reference.answer(Call::Precedes(tables, plan, first, second));
+        let [yes, at] = answer.values;
+        let inside = |action: u8| (1..=tables[0]).contains(&action);
+        match (self.0, answer.number) {
+            (BeforeExchanged, 0) => answer.values = [1 - yes, 0],
+            (BeforeYes, 0) if yes == 1 => answer.values[1] = plan.len(),
+            (BeforeEnd, 0) if yes == 0 => answer.values[1] = plan.len() - 1 - at,
+            (BeforeByte, 0) => answer.values[1] = at % 256,
+            (BeforePlace, 0) => answer.place = at,
+            (BeforeNone, 0) if !plan.contains(&second) => answer.values = [0, 0],
+            (BeforeRefused, 1..) => answer.values = [usize::MAX; 2],
+            (BeforeOrder, 73) if !is_basic(plan) => return refusal(70),
+            (BeforeFault, 11..=14) if first == second => return refusal(73),
+            (BeforeLast, 0 | 70) if [first, second].contains(&tables[0]) => return refusal(73),
+            (BeforeEqual, 73) if first == second && inside(first) => {
+                return self.precedence(plan, first, second);
+            }
+            (BeforeDeadStop, 73) if first == 0 && inside(second) => {
+                return self.precedence(plan, first, second);
+            }
+            (BeforeAbove, 73) if inside(first) && second > tables[0] => {
+                return self.precedence(plan, first, second);
+            }
+            (_, 0) => return self.precedence(plan, first, second),
+            _ => {}
+        }
+        answer
+    }
+}
+
+/// Whether an action of a basic plan is a product's first factor, and no path finishes behind it.
+fn is_stuck(plan: &[u8], place: usize) -> bool {
+    let starts = starts(plan);
+    let product = (place..plan.len()).find(|&at| plan[at] == 65 && starts[at] == place);
+    product.is_some_and(|at| counts(&plan[place + 1..at]).orders == 0)
 }
 
 /// The place of the first bracket that is open in 199 others.
@@ -616,6 +760,9 @@ impl Implementation for Damaged {
             Call::Walk(tables, plan, marks, message, finish) => {
                 self.walk(tables, plan, marks, message, finish)
             }
+            Call::Precedes(tables, plan, first, second) => {
+                self.precedes(tables, plan, first, second)
+            }
         }
     }
 }
@@ -626,7 +773,7 @@ fn an_undamaged_copy_agrees() {
     assert_eq!(agreement.numbers.values().sum::<u64>(), 4000);
     // Every number but some rare ones comes up.
     let met: Vec<u8> = agreement.numbers.into_keys().collect();
-    let listed = [1..=8, 11..=18, 31..=36, 51..=55, 61..=63, 70..=72];
+    let listed = [1..=8, 11..=18, 31..=36, 51..=55, 61..=63, 70..=73];
     for number in listed.into_iter().flatten() {
         assert!(met.contains(&number), "{number}");
     }
@@ -682,14 +829,14 @@ fn a_text_is_made_small_and_printed() {
     assert!(printed.contains("  text: \"("), "{printed}");
     assert!(printed.contains(" < "), "{printed}");
     // A fault of a long text needs few of its characters.
-    let difference = compare(&Reference, &Damaged(TextZero), 10_000, 3).unwrap_err();
+    let difference = compare(&Reference, &Damaged(TextZero), 10_000, 6).unwrap_err();
     let printed = difference.to_string();
     assert!(printed.contains("  text: \"00\"\n"), "{printed}");
 }
 
 #[test]
 fn a_walk_is_made_small_and_printed() {
-    let difference = compare(&Reference, &Damaged(WalkBranch), 10_000, 6).unwrap_err();
+    let difference = compare(&Reference, &Damaged(WalkBranch), 10_000, 27).unwrap_err();
     let Case::Walk(case) = &difference.case else {
         panic!("{difference}");
     };
@@ -707,7 +854,7 @@ fn a_walk_is_made_small_and_printed() {
         "{printed}"
     );
     // A list of messages needs one; each call is printed.
-    let difference = compare(&Reference, &Damaged(WalkSum), 10_000, 7).unwrap_err();
+    let difference = compare(&Reference, &Damaged(WalkSum), 10_000, 27).unwrap_err();
     let Case::Messages(case) = &difference.case else {
         panic!("{difference}");
     };
@@ -718,6 +865,27 @@ fn a_walk_is_made_small_and_printed() {
     );
     let printed = difference.to_string();
     assert_eq!(printed.matches("number 0, ").count(), 4, "{printed}");
+}
+
+#[test]
+fn a_precedence_is_made_small_and_printed() {
+    let difference = compare(&Reference, &Damaged(BeforeGreatest), 10_000, 3).unwrap_err();
+    let Case::Precedes(case) = &difference.case else {
+        panic!("{difference}");
+    };
+    // The second action twice, and the least actions.
+    assert_eq!((case.plan.len(), case.tables[0]), (3, 2), "{difference}");
+    let printed = difference.to_string();
+    assert!(printed.contains("  first: 2, second: 1\n"), "{printed}");
+    assert!(printed.contains("  first: number 0, values [0, 0], place 0\n"));
+    assert!(printed.contains("  second: number 0, values [0, 1], place 0\n"));
+    // A plan as long as can be needs few of its words.
+    let difference = compare(&Reference, &Damaged(BeforeEnd), 10_000, 3).unwrap_err();
+    let (drawn, small) = (Case::draw(difference.seed), &difference.case);
+    let (Case::Precedes(drawn), Case::Precedes(small)) = (&drawn, small) else {
+        panic!("{difference}");
+    };
+    assert_eq!((drawn.plan.len(), small.plan.len()), (16_383, 3));
 }
 
 #[test]
@@ -755,7 +923,7 @@ fn the_same_seed_draws_the_same_case() {
 #[test]
 fn every_kind_of_listing_is_drawn() {
     let mut met = BTreeSet::new();
-    for seed in 0..8000 {
+    for seed in 0..16_000 {
         let case = Case::draw(seed);
         if let Case::ListStation(_) = case {
             let outcome = case.run(&Reference);
@@ -958,4 +1126,65 @@ fn messages_are_taken_one_after_the_other() {
     }
     // Many in one walk, and some right behind one that was refused.
     assert!(taken > 5 && turned_back > 20, "{taken}, {turned_back}");
+}
+
+/// The kind of a case by its answer, and by where the second action appears.
+fn kind_of_precedence(case: &PrecedenceCase, answer: Answer) -> &'static str {
+    let (plan, first, second) = (&case.plan, case.first, case.second);
+    let outside = |action: u8| action == 0 || action > case.tables[0];
+    let appears: Vec<usize> = (0..plan.len()).filter(|&at| plan[at] == second).collect();
+    match (answer.number, answer.values, &appears[..]) {
+        (1..=8, _, _) => "tables",
+        (11..=14, _, _) => "plan",
+        (73, _, _) if !is_basic(plan) => "73, the plan not basic",
+        (73, _, _) if outside(first) && outside(second) => "73, both outside",
+        (73, _, _) if outside(first) => "73, the first outside",
+        (73, _, _) if outside(second) => "73, the second outside",
+        (73, _, _) => "73, equal",
+        (70, _, _) => "70",
+        (_, [1, _], []) => "yes, none appears",
+        (_, [1, _], [_]) => "yes, one appears",
+        (_, [1, _], _) => "yes, several appear",
+        (_, [_, _], [_]) => "no, one appears",
+        (_, [_, at], [least, ..]) if at == *least => "no, the first that appears",
+        (_, [_, _], _) => "no, a later one",
+    }
+}
+
+#[test]
+fn every_kind_of_precedence_is_drawn() {
+    let (mut met, mut longest) = (BTreeMap::new(), [0, 0]);
+    for seed in 0..16_000 {
+        let case = Case::draw(seed);
+        let answer = case.run(&Reference).answer;
+        if let Case::Precedes(case) = &case {
+            *met.entry(kind_of_precedence(case, answer)).or_insert(0) += 1;
+            if answer.number == 0 {
+                let longest = &mut longest[answer.values[0]];
+                *longest = case.plan.len().max(*longest);
+            }
+        }
+    }
+    let kinds: Vec<&str> = met.keys().copied().collect();
+    assert_eq!(
+        kinds,
+        [
+            "70",
+            "73, both outside",
+            "73, equal",
+            "73, the first outside",
+            "73, the plan not basic",
+            "73, the second outside",
+            "no, a later one",
+            "no, one appears",
+            "no, the first that appears",
+            "plan",
+            "tables",
+            "yes, none appears",
+            "yes, one appears",
+            "yes, several appear"
+        ]
+    );
+    assert!(met.values().all(|&count| count > 5), "{met:?}");
+    assert_eq!(longest, [16_383; 2]);
 }

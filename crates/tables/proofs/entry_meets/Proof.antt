@@ -29,8 +29,8 @@ entry-right-requires-2 c κs = search needs
 enum-told-3 : tie.Need-enum-told-3
 enum-told-3 c = search needs
 
-in-no-set-requires : tie.Need-in-no-set-requires
-in-no-set-requires c κs = search needs
+is-outside-requires : tie.Need-is-outside-requires
+is-outside-requires c κs = search needs
 
 entry-right-requires-3 : tie.Need-entry-right-requires-3
 entry-right-requires-3 c κs = search needs
@@ -57,7 +57,7 @@ returns-2 c = rw (c .before .before .enum-told2 .given .1, ← c .before .before
 
 returns-3 : tie.Need-returns-3
 unfolding entry-meets
-returns-3 c = rw (c .before .before .enum-told3 .given .1, ← c .before .before .before .before .entry-at .ensures, ← c .before .in-no-set .ensures) (c .entry-right3 .ensures)
+returns-3 c = rw (c .before .before .enum-told3 .given .1, ← c .before .before .before .before .entry-at .ensures, ← c .before .is-outside .ensures) (c .entry-right3 .ensures)
 
 returns-4 : tie.Need-returns-4
 unfolding entry-meets
@@ -79,7 +79,7 @@ entry-meets-spec =
     outside-requires-2
     entry-right-requires-2
     enum-told-3
-    in-no-set-requires
+    is-outside-requires
     entry-right-requires-3
     enum-told-4
     null-right-requires

@@ -2,16 +2,17 @@
 use borrow.Author.Needs.{needs}
 use Rattle.walks.proofs.walk.Statement.{statement}
 use Rattle.walks.proofs.walk.Tie as tie
-use Prim.Native.Nat.{ℕ, _<_}
+use Prim.Native.Nat.{ℕ}
 use mathlib.Core.Path.{_≡_, sym, _∙_, subst}
-use mathlib.Core.Bool.{false}
+use mathlib.Core.Bool.{true, false}
 use mathlib.Core.Option.{none}
 use lib.ListN.{length-replicate}
 use Rattle.refusals.proofs.Judging.{accepted-none}
-use Rattle.walks.specs.Progress.{Progress, outside?}
+use Rattle.tables.specs.Tables.{outside?}
+use Rattle.walks.specs.Progress.{Progress}
 use Rattle.walks.specs.Outcome.{not-walkable-refusal}
 use Rattle.walks.specs.Turns.{Walking}
-use Rattle.walks.proofs.Outcomes.{walk-refused-as, walk-outside-as, walk-on-as, walking, outside-zero, outside-high, outside-none}
+use Rattle.walks.proofs.Outcomes.{walk-refused-as, walk-outside-as, walk-on-as, walking}
 
 abbrev start : tie.After-judge-walk → tie.Start
 start c = c .before .before .before .before .before
@@ -27,8 +28,8 @@ abbrev lent : tie.Start → Progress
 lent s = record { marks = s .args .marks .now; finish = s .args .finished .now }
 
 -- the message is within 1 to n
-within : (c : tie.Else2) → outside? (c .before .before .actions-of .result) (given (c .before .before) .args .message) ≡ false
-within c = outside-none _ _ (c .before .if1 .left) (c .if2 .left)
+within : (c : tie.Else1) → outside? (c .before .before .actions-of .result) (given (c .before .before) .args .message) ≡ false
+within c = sym (c .before .is-outside .ensures) ∙ c .if1 .left
 
 judge-walk-requires : tie.Need-judge-walk-requires
 judge-walk-requires c κs = search needs
@@ -48,6 +49,9 @@ enum-told-2 c = search needs
 actions-of-requires : tie.Need-actions-of-requires
 actions-of-requires c κs = search needs
 
+is-outside-requires : tie.Need-is-outside-requires
+is-outside-requires c κs = search needs
+
 refused-requires : tie.Need-refused-requires
 refused-requires c κs = search needs
 
@@ -56,19 +60,9 @@ same-length-2 c = search needs
 
 returns-2 : tie.Need-returns-2
 returns-2 c =
-    let k = c .before .before in
-    walk-outside-as _ _ (lent (given k)) _ (accepted k) (outside-zero _ _ (c .before .if1 .taken)) (c .refused .ensures)
-
-refused-requires-2 : tie.Need-refused-requires-2
-refused-requires-2 c κs = search needs
-
-same-length-3 : tie.Need-same-length-3
-same-length-3 c = search needs
-
-returns-3 : tie.Need-returns-3
-returns-3 c =
     let k = c .before .before .before in
-    walk-outside-as _ _ (lent (given k)) _ (accepted k) (outside-high _ _ (subst (λ n. n < given k .args .message) (k .actions-of .ensures) (c .before .if2 .taken))) (c .refused2 .ensures)
+    let o = sym (c .before .before .is-outside .ensures) ∙ c .before .if1 .taken in
+    walk-outside-as _ _ (lent (given k)) _ (accepted k) (subst (λ n. outside? n (given k .args .message) ≡ true) (k .actions-of .ensures) o) (c .refused .ensures)
 
 slice-aggregate-take-message : tie.Need-slice-aggregate-take-message
 slice-aggregate-take-message c = search needs
@@ -80,11 +74,11 @@ take-message-requires c κs =
     let s = given k .args in
     (subst (λ n. Walking n (s .plan .now) (s .marks .now)) (sym (k .actions-of .ensures)) (walking _ _ _ (accepted k)), within e, length-replicate {A = ℕ} 16384 0)
 
-same-length-4 : tie.Need-same-length-4
-same-length-4 c = search needs
+same-length-3 : tie.Need-same-length-3
+same-length-3 c = search needs
 
-returns-4 : tie.Need-returns-4
-returns-4 c =
+returns-3 : tie.Need-returns-3
+returns-3 c =
     let t = c .before .before .before in
     let e = t .before .before .before .before in
     let k = e .before .before in
@@ -101,13 +95,11 @@ walk-spec =
     returns
     enum-told-2
     actions-of-requires
+    is-outside-requires
     refused-requires
     same-length-2
     returns-2
-    refused-requires-2
-    same-length-3
-    returns-3
     slice-aggregate-take-message
     take-message-requires
-    same-length-4
-    returns-4)
+    same-length-3
+    returns-3)

@@ -439,6 +439,8 @@ mod before {
                 )
             })
         },
+        // The call is new with version 0.9.0, and can be compared from the next version on.
+        precedes: |_, _, _, _| panic!("the earlier library does not ask about two actions"),
     };
 
     /// Makes a call that sets at most two numbers, those of `Ended`, and a place.

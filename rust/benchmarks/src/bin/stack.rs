@@ -6,9 +6,10 @@
 //! the call.
 
 use aberulwy::{raw, LONGEST_LISTING};
-use benchmarks::contenders::PROVED;
+use benchmarks::contenders::{Contender, PROVED};
 use benchmarks::workloads::{
-    deep_texts, long_sum, stopped_merges, walks, Places, Replay, Workload, MERGES, STOPPED_CHAINS,
+    deep_texts, long_sum, precedences, stopped_merges, walks, Places, Replay, Workload, MERGES,
+    STOPPED_CHAINS,
 };
 use reference::plans::LONGEST_PLAN;
 use reference::stations::write_station;
@@ -23,7 +24,7 @@ use std::thread::Builder;
 const ENOUGH: usize = 4096;
 /// A thread that asks for less may get more, so less is not tried.
 const LITTLE: usize = 32;
-const CALLS: [&str; 13] = [
+const CALLS: [&str; 14] = [
     "judge_tables",
     "judge_plan",
     "is_basic",
@@ -37,6 +38,7 @@ const CALLS: [&str; 13] = [
     "read_text",
     "fresh_walk",
     "walk",
+    "precedes",
 ];
 
 fn main() {
@@ -85,7 +87,10 @@ fn attempt(call: &str, kib: usize) {
 
 /// A call with all that it is handed; it answers its number, or 0 where several calls end as they
 /// should.
-fn prepared(call: &str) -> Box<dyn FnOnce() -> u8 + Send> {
+type Prepared = Box<dyn FnOnce() -> u8 + Send>;
+
+/// The call of this name.
+fn prepared(call: &str) -> Prepared {
     let (tables, plan) = (trial_tables(), long_sum(LONGEST_PLAN));
     let proved = PROVED.expect("the archive is linked");
     match call {
@@ -142,16 +147,20 @@ fn prepared(call: &str) -> Box<dyn FnOnce() -> u8 + Send> {
             let (mut marks, mut finished) = (vec![0; plan.len()], 0);
             Box::new(move || raw::fresh_walk(&tables, &plan, &mut marks, &mut finished).number)
         }
-        "walk" => {
-            // Plans of all lengths, deep and wide, with one mark and with all words marked.
-            let mut messages = walks();
-            Box::new(move || {
-                let right = messages
-                    .iter_mut()
-                    .all(|(_, message)| message.run(proved).0 == 0);
-                u8::from(!right)
-            })
-        }
+        // Plans of all lengths, deep and wide, with one mark and with all words marked.
+        "walk" => all(walks(), proved),
+        // Plans of all lengths, deep, wide and random, with both answers.
+        "precedes" => all(precedences(), proved),
         _ => panic!("no call {call}"),
     }
+}
+
+/// Several calls, one after the other, each of which is to answer 0.
+fn all<W: Workload + Send + 'static>(calls: Vec<(String, W)>, proved: Contender) -> Prepared {
+    Box::new(move || {
+        let right = calls
+            .into_iter()
+            .all(|(_, mut call)| call.run(proved).0 == 0);
+        u8::from(!right)
+    })
 }

@@ -7,9 +7,10 @@
 //! - the checker: `words`, `word_laws`, `gap`, `checking`
 //! - the unfolding: `records`, `graph`, `graph_laws`, `graph_steps`, `unfolding`
 //! - the reader of texts, which uses none of them: `texts`
-//! - what the walks and the counting share, which uses none of them: `basic`
+//! - what the walks, the counting and the precedence share, which uses none of them: `basic`
 //! - the walks: `walks`
 //! - the counting: `counting`
+//! - the precedence, in one pass where the library takes two: `precedence`
 
 mod areas;
 mod basic;
@@ -19,6 +20,7 @@ mod gap;
 mod graph;
 mod graph_laws;
 mod graph_steps;
+mod precedence;
 mod records;
 mod texts;
 mod unfolding;
@@ -29,6 +31,7 @@ mod words;
 pub use basic::is_basic;
 pub use checking::check_rewriting;
 pub use counting::count_orders;
+pub use precedence::precedes;
 pub use texts::read_text;
 pub use unfolding::unfold;
 pub use walks::{fresh_walk, walk};

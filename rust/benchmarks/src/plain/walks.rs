@@ -3,7 +3,7 @@
 
 use super::basic::is_basic;
 use reference::plans::{operands, CHOICE, LONGEST_PLAN, PRODUCT};
-use reference::tables::{actions, DEAD_STOP};
+use reference::tables::outside;
 use reference::Refusal;
 
 /// Begins a walk; the answer, the marks and the finish are those of the library.
@@ -29,7 +29,7 @@ pub fn walk(
     finished: &mut bool,
 ) -> Result<(), Refusal> {
     judge_walk(tables, plan, marks)?;
-    if message == DEAD_STOP || message > actions(tables) {
+    if outside(tables, message) {
         return Err(Refusal::nowhere(71));
     }
     let mut starts = [0; LONGEST_PLAN];

@@ -7,13 +7,14 @@ use Prim.Native.Nat.{_-_, _<_}
 use mathlib.Core.Path.{_≡_}
 use lib.ListN.{length, length-set}
 use Rattle.areas.specs.Area.{most-words}
-use Rattle.walks.proofs.Turning.{Before, words-few, before-sum, before-product, looked-sum, looked-product, looked-other, looked-action}
+use Rattle.paths.proofs.Starting.{Before, before-sum, before-product}
+use Rattle.walks.proofs.Turning.{words-few, looked-sum, looked-product, looked-other, looked-action}
 
-abbrev at-sum : (c : tie.Then1) → let s = c .before .before .args in Before (c .before .before .pre .0) (s .i) (c .before .before .pre .1)
-at-sum c = before-sum (c .before .before .pre .0) _ (c .before .before .pre .1) (c .if1 .taken)
+abbrev at-sum : (c : tie.Then1) → let s = c .before .before .args in Before (s .n) (s .plan .now) (s .starts .now) (s .i)
+at-sum c = let p = c .before .before .pre in before-sum (p .0 .few) (p .0 .accepted) (p .0 .starts-right) _ (p .1) (c .if1 .taken)
 
-abbrev at-product : (c : tie.Then2) → let s = c .before .before .before in Before (s .pre .0) (s .args .i) (s .pre .1)
-at-product c = before-product (c .before .before .before .pre .0) _ (c .before .before .before .pre .1) (c .if2 .taken)
+abbrev at-product : (c : tie.Then2) → let s = c .before .before .before .args in Before (s .n) (s .plan .now) (s .starts .now) (s .i)
+at-product c = let p = c .before .before .before .pre in before-product (p .0 .few) (p .0 .accepted) (p .0 .starts-right) _ (p .1) (c .if2 .taken)
 
 few-words : (s : tie.Start) → s .args .i < most-words
 few-words s = omega (arith, s .pre .1, words-few (s .pre .0))

@@ -1,0 +1,4 @@
+pub mod Overtaking
+pub mod Outcome
+pub mod Claims
+pub mod Pass
