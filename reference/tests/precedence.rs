@@ -5,7 +5,7 @@ use reference::plans::{
     counts, is_basic, judge, starts, subplan, CHOICE, LONGEST_PLAN, PRODUCT, THETA,
 };
 use reference::precedence::{precedes, Precedence};
-use reference::random::plans::{basic_plan, every_plan, repeating_basic_plan};
+use reference::random::plans::{basic_plan, every_plan, repeating_basic_plan, NOT_BASIC};
 use reference::random::precedence::{precedence_case, PrecedenceCase};
 use reference::random::tables::lawful_tables_over;
 use reference::random::walks::walked_plan;
@@ -219,23 +219,7 @@ fn actions_outside_1_to_n() {
 
 #[test]
 fn plans_that_are_not_basic() {
-    for plan in [
-        &[0, 1, 64][..],
-        &[1, 0, 64],
-        &[0, 0, 64],
-        &[0, 1, 65],
-        &[1, 2, 65, 3, 65],
-        &[1, 2, 64, 3, 65],
-        &[1, 1, 0, 64, 65],
-        &[1, 70],
-        &[1, 80],
-        &[1, 2, 66],
-        &[1, 2, 67],
-        &[1, 2, 68],
-        &[1, 2, 69],
-        &[1, 2, 3, 66, 65],
-        &[1, 2, 87, 65],
-    ] {
+    for plan in NOT_BASIC {
         for (first, second) in pairs(4) {
             assert_eq!(refused(plan, first, second), Refusal::nowhere(70));
             // Equal actions, and one outside 1 to n, are asked for before.

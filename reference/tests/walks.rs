@@ -3,7 +3,7 @@
 use reference::plans::{
     is_basic, judge, starts, subplan, term, Term, CHOICE, LONGEST_PLAN, PRODUCT,
 };
-use reference::random::plans::{every_plan, repeating_basic_plan};
+use reference::random::plans::{every_plan, repeating_basic_plan, NOT_BASIC};
 use reference::random::walks::{
     any_marks, fresh_walk_case, messages_case, walk_case, WalkCase, Walked,
 };
@@ -230,23 +230,7 @@ fn refused(tables: &[u8], plan: &[u8], marks: &[u8], message: u8) -> [Refusal; 2
 #[test]
 fn plans_that_are_not_basic() {
     let (tables, both) = (tables_over(4), [Refusal::nowhere(70); 2]);
-    for plan in [
-        &[0, 1, 64][..],
-        &[1, 0, 64],
-        &[0, 0, 64],
-        &[0, 1, 65],
-        &[1, 2, 65, 3, 65],
-        &[1, 2, 64, 3, 65],
-        &[1, 1, 0, 64, 65],
-        &[1, 70],
-        &[1, 80],
-        &[1, 2, 66],
-        &[1, 2, 67],
-        &[1, 2, 68],
-        &[1, 2, 69],
-        &[1, 2, 3, 66, 65],
-        &[1, 2, 87, 65],
-    ] {
+    for plan in NOT_BASIC {
         for mark in [0, 1, 7] {
             let marks = vec![mark; plan.len()];
             assert_eq!(refused(&tables, plan, &marks, 1), both, "{plan:?}");

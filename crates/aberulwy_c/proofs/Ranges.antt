@@ -8,7 +8,7 @@ use Rattle.refusals.specs.declared.Refusal.{Refusal}
 use Rattle.refusals.specs.Refusal.{refuse-if, or-else}
 use Rattle.aberulwy_c.proofs.Numbers.{low?, low-range}
 
--- a refusal's number is at most the highest
+-- a refusal's number is 1 to the highest
 abbrev pub Range : ℕ → Refusal → Type 0
 Range top f = (1 ≤ f .number) × (f .number ≤ top)
 

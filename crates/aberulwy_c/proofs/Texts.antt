@@ -1,5 +1,5 @@
 -- What is claimed of reading a text holds of the answer that the numbers tell: every refusal of it is 1 to 63.
-use Prim.Native.Nat.{ℕ, _≤_}
+use Prim.Native.Nat.{ℕ}
 use native.Mathlib.Omega.{arith}
 use mathlib.Core.Path.{_≡_, refl, sym, ap}
 use mathlib.Core.Bool.{Bool, true, false, cond, _&&_}
@@ -22,7 +22,7 @@ use Rattle.texts.specs.Claims.{TextClaims}
 use Rattle.aberulwy_c.specs.Handing.{Answered}
 use Rattle.aberulwy_c.specs.Seen.{TextReadAs, read, refused, TextSeen}
 use Rattle.aberulwy_c.proofs.Numbers.{low-tables}
-use Rattle.aberulwy_c.proofs.Ranges.{Ranges, ranges-or, ranges-low}
+use Rattle.aberulwy_c.proofs.Ranges.{Range, Ranges, ranges-or, ranges-low}
 
 -- the highest refusal of a text
 abbrev highest : ℕ
@@ -41,11 +41,11 @@ module _ (t : Tables) (text area : List ℕ) where
   unfolding text-refusal
   range = ranges-or highest (table-refusal t) _ (ranges-low highest (omega arith) (table-refusal t) (low-tables t)) (range-found (actions t) (length area) text (read-text (actions t) text) refl)
 
-  refused-range : (f : Refusal) → text-outcome t text area .answer ≡ Refused f → (1 ≤ f .number) × (f .number ≤ 63)
+  refused-range : (f : Refusal) → text-outcome t text area .answer ≡ Refused f → Range highest f
   unfolding text-outcome
   refused-range f = go (text-refusal t text (length area)) range
     where
-      go : (o : Option Refusal) → Ranges highest o → unless-refused o (plan-of (read-text (actions t) text)) area .answer ≡ Refused f → (1 ≤ f .number) × (f .number ≤ 63)
+      go : (o : Option Refusal) → Ranges highest o → unless-refused o (plan-of (read-text (actions t) text)) area .answer ≡ Refused f → Range highest f
       go none r e = let z : _≡_ {A = ℕ} 0 1 = cc in absurd (omega arith)
       go (some g) r e = let q : g ≡ f = cc in rw (← q) r
 

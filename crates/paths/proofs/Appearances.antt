@@ -1,4 +1,4 @@
--- The actions before the words of a basic plan are those of the paths of its tree.
+-- The actions before the words of a basic plan are those of the paths of its tree, and of its own.
 use Prim.Native.Nat.{ℕ, suc, _+_, _≤_, _<_}
 use native.Mathlib.Numerals.{add-one}
 use native.Mathlib.Omega.{arith}
@@ -83,6 +83,11 @@ behind : {n : ℕ} (few : n ≤ 31) {plan : List ℕ} {b s : ℕ} {y : Term} →
 unfolding words
 behind {n} few {plan} {b} {s} {y} k = subst (λ q. Standing n plan q y) (add-one s) (standing-second few k)
 
+-- a sign is no action
+pub signs : (64 ≤ binary-word Choice) × (64 ≤ binary-word Sequence)
+unfolding binary-word
+signs = (omega arith, omega arith)
+
 -- Action a at place p: a path has it behind the actions before p.
 module _ (n : ℕ) (few : n ≤ 31) (plan : List ℕ) (a : ℕ) (live : 1 ≤ a) (small : a ≤ 31) where
   abbrev Shown : ℕ → Term → ℕ → Type 0
@@ -111,10 +116,6 @@ module _ (n : ℕ) (few : n ≤ 31) (plan : List ℕ) (a : ℕ) (live : 1 ≤ a)
 
   shown-right : {s p : ℕ} {x y : Term} → s + length (words x) ≤ p → p < s + length (words x) + length (words y) → Shown (s + length (words x)) y p → Shown s (bin Choice x y) p
   shown-right {s} {p} {x} {y} l h r = (r .0, r .1, r .2, rw (before-in-second s Choice x y p l h) (ends.right (r .3)))
-
-  signs : (64 ≤ binary-word Choice) × (64 ≤ binary-word Sequence)
-  unfolding binary-word
-  signs = (omega arith, omega arith)
 
   -- both operators, by where the place stands
   product-shown : {b s p : ℕ} {y : Term} → Standing n plan s (bin Sequence (act b) y) → Basic y → s ≤ p → getD plan p 0 ≡ a
@@ -249,7 +250,8 @@ module _ (t : Tables) (n : ℕ) (few : n ≤ 31) (plan : List ℕ) (u : Term) (b
       from : (p : ℕ) × (p < length plan) × (getD plan p 0 ≡ a) × (actions-before 0 u p ≡ ms) → Begins (tree t u) (ms ++ (a ∷ []))
       from (p, h, w, q) = let r = appears-path p a live small h w in (r .0, rw (← q, append-assoc (actions-before 0 u p) (a ∷ []) (r .0)) (r .1))
 
--- Word by word: where a path finishes at a word, and where messages lead on from a word, they are the actions before that word and then its own.
+-- Where a path finishes at a word, its actions are those before that word and then the word's own; and so are messages that lead to the subplan just
+-- behind a word.
 module _ {n : ℕ} (few : n ≤ 31) (plan : List ℕ) where
   abbrev Through : ℕ → Term → ℕ → List ℕ → Type 0
   Through s u p ms = ms ≡ actions-before s u p ++ (getD plan p 0 ∷ [])
@@ -319,7 +321,7 @@ module _ {n : ℕ} (few : n ≤ 31) (plan : List ℕ) where
       let b = behind-there i p (d .low) (d .high) in record { low = b .low; high = b .high; through = rw (b .one-more) (ap (λ l. m ∷ l) (d .through)) }
 
 -- of a whole plan
-module _ (n : ℕ) (few : n ≤ 31) (plan : List ℕ) (u : Term) (b : Basic u) (e : term-of n plan ≡ some u) where
+module _ (n : ℕ) (few : n ≤ 31) (plan : List ℕ) (u : Term) (e : term-of n plan ≡ some u) where
   pub finishes-before : {ms : List ℕ} {p : ℕ} → PathTo 0 u ms finish p → ms ≡ actions-before 0 u p ++ (getD plan p 0 ∷ [])
   finishes-before i = finish-through few plan i (standing-whole n plan u e)
 

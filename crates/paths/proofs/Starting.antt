@@ -1,4 +1,5 @@
--- One word more: it finds its operands among the starts of the words before it, and its own start is the one that the contract says.
+-- One word more: it finds its operands among the starts of the words before it, and its own start is the one that the contract says. And by the starts of
+-- all words, where the operands of an operator stand.
 use Prim.Native.Nat.{ℕ, suc, _-_, _≤_, _<_}
 use native.Mathlib.Omega.{arith}
 use mathlib.Core.Path.{_≡_, refl, sym, ap, _∙_, subst}

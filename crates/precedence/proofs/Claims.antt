@@ -110,13 +110,16 @@ whole-begins P first second = (to, from)
     from : Precedes P first second → Precedes (λ ms. (ks : List ℕ) × P (ms ++ ks)) first second
     from f ms ks (ls, l) = f ms (ks ++ ls) (rw (append-assoc ms (second ∷ ks) ls) at l)
 
+few-of : {t : Tables} {plan : List ℕ} → BasicPlan t plan → actions t ≤ 31
+few-of b = b .plan .lawful .well-formed .few-actions
+
 -- what was found in a basic plan, whatever its term was got from
 module _ (t : Tables) (plan : List ℕ) (first second : ℕ) (pair : Pair t first second) (b : BasicPlan t plan) where
   abbrev u : Term
   u = b .plan .term
 
   few : actions t ≤ 31
-  few = b .plan .lawful .well-formed .few-actions
+  few = few-of b
 
   reads : term-of (actions t) plan ≡ some u
   reads = accepted-reads-as t plan (b .plan)
@@ -237,16 +240,13 @@ module _ (t : Tables) (plan : List ℕ) (first second : ℕ) where
         no-exactly = λ p. (to-place p, λ k. no-iff c p .1 (said-answered (k .0), overtaking-some t plan first second (k .0 .pair) (k .0 .basic) p (k .1)));
         shown = shown;
         refused-exactly = λ f. (λ q. not-answered-said f (refused-iff c f .0 q), λ k. refused-iff c f .1 (said-not-answered f k));
-        finishes-at = λ b ms p i. finishes-before (actions t) (few b) plan (b .plan .term) (b .basic) (accepted-reads-as t plan (b .plan)) i;
-        leads-from = λ b ms p y i. leads-before (actions t) (few b) plan (b .plan .term) (b .basic) (accepted-reads-as t plan (b .plan)) i;
+        finishes-at = λ b ms p i. finishes-before (actions t) (few-of b) plan (b .plan .term) (accepted-reads-as t plan (b .plan)) i;
+        leads-from = λ b ms p y i. leads-before (actions t) (few-of b) plan (b .plan .term) (accepted-reads-as t plan (b .plan)) i;
         appearances = appearances;
       }
     where
       c : Came r
       c = subst Came (sym e) came
-
-      few : BasicPlan t plan → actions t ≤ 31
-      few b = b .plan .lawful .well-formed .few-actions
 
       to-whole : r ≡ Yes → (a : Answered t plan first second) × Precedes (Whole (tree t (a .basic .plan .term))) first second
       to-whole q = let k = yes-iff c .0 q in let a = answered-said (k .0) in (a, none-precedes t plan first second (a .pair) (a .basic) (k .1))
@@ -268,7 +268,7 @@ module _ (t : Tables) (plan : List ℕ) (first second : ℕ) where
       appearances : (b : BasicPlan t plan) (ms : List ℕ) (a : ℕ) → 1 ≤ a → a ≤ actions t
           → Begins (tree t (b .plan .term)) (ms ++ (a ∷ [])) ↔ ((p : ℕ) × (p < length plan) × (getD plan p 0 ≡ a) × (actions-before 0 (b .plan .term) p ≡ ms))
       appearances b ms a live low =
-          appears-exactly t (actions t) (few b) plan (b .plan .term) (b .basic) (accepted-reads-as t plan (b .plan)) ms a live (omega arith)
+          appears-exactly t (actions t) (few-of b) plan (b .plan .term) (b .basic) (accepted-reads-as t plan (b .plan)) ms a live (omega arith)
 
   -- all that the call promises
   pub precedence-said : {r : Precedence} → r ≡ precedence-answer t plan first second

@@ -22,7 +22,7 @@ use Rattle.paths.specs.Operands.{first-operand}
 use Rattle.paths.specs.Appearances.{actions-before}
 use Rattle.paths.proofs.Standing.{Standing, size-bin, standing-whole, standing-inside, standing-action, standing-first, standing-second, standing-sign, standing-operand}
 use Rattle.paths.proofs.Parts.{plan-size}
-use Rattle.paths.proofs.Appearances.{Within, in-first, in-second, at-operator, within-operator, before-in-first, before-in-second}
+use Rattle.paths.proofs.Appearances.{Within, in-first, in-second, at-operator, within-operator, before-in-first, before-in-second, signs}
 use Rattle.precedence.specs.Overtaking.{among?, overtakes?, overtaking}
 use Rattle.precedence.specs.Pass.{hand-on, early?, pass, passed}
 use Rattle.precedence.proofs.Least.{Found, at-place, nowhere, least-found, one-found, found-as}
@@ -186,10 +186,6 @@ module _ (n : ℕ) (few : n ≤ 31) (plan : List ℕ) (first second : ℕ) (smal
 
       py : ℕ
       py = place-of (s + length (words x)) y
-
-  signs : (64 ≤ binary-word Choice) × (64 ≤ binary-word Sequence)
-  unfolding binary-word
-  signs = (omega arith, omega arith)
 
   operand-place : (s : ℕ) (o : Binary) (x y : Term) → place-of s (bin o x y) - 1 ≡ place-of (s + length (words x)) y
   operand-place s o x y = omega (arith, size-bin o x y, words-some y)

@@ -1,4 +1,4 @@
--- One turn of the pass: where the operands of an operator stand, and what each kind of word leaves.
+-- One turn of the pass: what each kind of word leaves.
 use Prim.Native.Nat.{ℕ, suc, _-_, _≤_, _<_}
 use native.Mathlib.Omega.{arith}
 use mathlib.Core.Path.{_≡_, refl, ap, sym, _∙_}
@@ -16,7 +16,7 @@ module _ {n : ℕ} {plan starts seen : List ℕ} (h : Passing n plan starts seen
   pub words-few : length plan ≤ most-words
   words-few = accepted-length n (h .few) plan (h .accepted)
 
-  module _ (i : ℕ) (inside : i < length plan) where
+  module _ (i : ℕ) where
     -- what each kind of word leaves
     module _ (first second : ℕ) (small : second ≤ n) where
       no-action : (k : ℕ) → 64 ≤ k → getD plan i 0 ≡ k → early? n plan first second i seen ≡ false

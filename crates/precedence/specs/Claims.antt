@@ -66,8 +66,8 @@ pub record PrecedenceClaims (t : Tables) (plan : List ℕ) (first second : ℕ) 
   -- the path to that place can be shown: some path of the tree begins with the actions before it, and then the second action
   pub shown : (p : ℕ) → r ≡ No p → (b : BasicPlan t plan) → Begins (tree t (b .plan .term)) (actions-before 0 (b .plan .term) p ++ (second ∷ []))
   pub refused-exactly : (f : Refusal) → (r ≡ Refused f) ↔ NotAnswered t plan first second f
-  -- the actions before words are those of paths: where a path of the plan finishes at a word, and where messages lead on from a word, they are those before
-  -- it and then its own
+  -- the actions before words are those of paths: where a path of the plan finishes at a word, its actions are those before that word and then the word's
+  -- own; and so are messages that lead to the subplan that starts just behind a word
   pub finishes-at : (b : BasicPlan t plan) (ms : List ℕ) (p : ℕ) → PathTo 0 (b .plan .term) ms finish p
       → ms ≡ actions-before 0 (b .plan .term) p ++ (getD plan p 0 ∷ [])
   pub leads-from : (b : BasicPlan t plan) (ms : List ℕ) (p : ℕ) (y : Term) → Transitions (subplan 0 (b .plan .term)) ms (subplan (suc p) y)

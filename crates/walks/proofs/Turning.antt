@@ -1,4 +1,4 @@
--- One turn of a pass: where the operands of an operator stand, and what each kind of word leaves.
+-- One turn of a pass: what each kind of word leaves.
 use Prim.Native.Nat.{ℕ, suc, _+_, _-_, _≤_, _<_}
 use native.Mathlib.Omega.{arith}
 use mathlib.Core.Path.{_≡_, refl, ap, ap₂, sym, _∙_}
@@ -19,7 +19,7 @@ module _ {n : ℕ} {plan starts left next : List ℕ} (h : Passing n plan starts
   pub words-few : length plan ≤ most-words
   words-few = accepted-length n (h .few) plan (h .accepted)
 
-  module _ (i : ℕ) (inside : i < length plan) where
+  module _ (i : ℕ) where
     -- what each kind of word leaves
     module _ (m : ℕ) where
       pub looked-sum : getD plan i 0 ≡ 64 → (first : ℕ) → first ≡ first-operand n plan i → Looked n plan m i left next (set (set left (i - 1) 1) first 1) next false

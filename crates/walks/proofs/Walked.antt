@@ -19,7 +19,7 @@ use Rattle.plans.specs.Basic.{Basic}
 use Rattle.plans.specs.Accepted.{BasicPlan}
 use Rattle.plans.proofs.Accepted.{words-some, accepted-reads-as, basic-plan}
 use Rattle.plans.proofs.Options.{never}
-use Rattle.trees.specs.Tree.{Rest, finish, further}
+use Rattle.trees.specs.Tree.{Rest, further}
 use Rattle.trees.specs.Meaning.{tree}
 use Rattle.paths.specs.Paths.{Leads, Begins, Finishes}
 use Rattle.paths.specs.Subplans.{place-of, Target, at-finish, subplan, Transition, Transitions, stay, go, rest-of}

@@ -20,6 +20,32 @@ const TASTES: [&[u8]; 7] = [
     &[64],
 ];
 
+/// Small plans over at most three actions that are not basic, each for a reason of its own.
+pub const NOT_BASIC: [&[u8]; 22] = [
+    &[0, 1, 64],
+    &[1, 0, 64],
+    &[0, 0, 64],
+    &[0, 1, 65],
+    &[0, 0, 65],
+    &[1, 2, 65, 3, 65],
+    &[1, 2, 64, 3, 65],
+    &[1, 1, 0, 64, 65],
+    &[1, 2, 66],
+    &[1, 2, 67],
+    &[1, 0, 67],
+    &[1, 2, 68],
+    &[0, 1, 68],
+    &[1, 2, 69],
+    &[1, 0, 65, 2, 69],
+    &[0, 70],
+    &[1, 70],
+    &[0, 80],
+    &[1, 80],
+    &[1, 0, 65, 87],
+    &[1, 2, 3, 66, 65],
+    &[1, 2, 87, 65],
+];
+
 /// How the words of a plan are shared out between two operands.
 #[derive(Clone, Copy)]
 enum Shape {

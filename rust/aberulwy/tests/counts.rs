@@ -2,7 +2,7 @@
 
 use aberulwy::examples::trial_tables;
 use aberulwy::*;
-use reference::random::plans::{any_plan, basic_plan, repeating_basic_plan};
+use reference::random::plans::{any_plan, basic_plan, repeating_basic_plan, NOT_BASIC};
 use reference::random::walks::nearly_basic_plan;
 use reference::random::Random;
 use reference::stations::write_station;
@@ -96,25 +96,7 @@ fn basic_plans() {
 
 #[test]
 fn plans_that_are_not_basic_count_nothing() {
-    for plan in [
-        &[0, 1, 64][..],
-        &[1, 0, 64],
-        &[0, 0, 64],
-        &[0, 1, 65],
-        &[0, 0, 65],
-        &[1, 2, 65, 3, 65],
-        &[1, 2, 64, 3, 65],
-        &[1, 1, 0, 64, 65],
-        &[1, 2, 66],
-        &[1, 0, 67],
-        &[0, 1, 68],
-        &[1, 0, 65, 2, 69],
-        &[0, 70],
-        &[1, 70],
-        &[0, 80],
-        &[1, 0, 65, 87],
-        &[1, 2, 3, 66, 65],
-    ] {
+    for plan in NOT_BASIC {
         assert_eq!(is_basic(&trial_tables(), plan), Ok(false), "{plan:?}");
         assert_eq!(counted(plan), (0, 0), "{plan:?}");
     }

@@ -2,7 +2,7 @@
 
 use aberulwy::examples::trial_tables;
 use aberulwy::*;
-use reference::random::plans::{basic_plan, repeating_basic_plan};
+use reference::random::plans::{basic_plan, repeating_basic_plan, NOT_BASIC};
 use reference::random::precedence::precedence_case;
 use reference::random::Random;
 use Precedence::{No, Yes};
@@ -301,23 +301,7 @@ fn as_many_actions_as_there_are() {
 
 #[test]
 fn plans_that_are_not_basic() {
-    for plan in [
-        &[0, 1, 64][..],
-        &[1, 0, 64],
-        &[0, 0, 64],
-        &[0, 1, 65],
-        &[1, 2, 65, 3, 65],
-        &[1, 2, 64, 3, 65],
-        &[1, 1, 0, 64, 65],
-        &[1, 2, 66],
-        &[1, 2, 67],
-        &[1, 2, 68],
-        &[1, 2, 69],
-        &[1, 70],
-        &[1, 80],
-        &[1, 2, 3, 66, 65],
-        &[1, 2, 87, 65],
-    ] {
+    for plan in NOT_BASIC {
         refused(&trial_tables(), plan, (1, 2), 70, 0);
         refused(&trial_tables(), plan, (4, 3), 70, 0);
     }

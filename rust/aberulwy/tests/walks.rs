@@ -2,6 +2,7 @@
 
 use aberulwy::examples::trial_tables;
 use aberulwy::*;
+use reference::random::plans::NOT_BASIC;
 use std::collections::BTreeSet;
 
 /// The words of the longest basic plans: there is one sign less than there are actions.
@@ -302,19 +303,7 @@ fn the_order_of_refusals() {
 #[test]
 fn plans_that_are_not_basic_and_marks_of_another_length() {
     let tables = trial_tables();
-    for plan in [
-        &[0, 1, 64][..],
-        &[1, 0, 64],
-        &[0, 1, 65],
-        &[1, 2, 65, 3, 65],
-        &[1, 2, 64, 3, 65],
-        &[1, 70],
-        &[1, 80],
-        &[1, 2, 67],
-        &[1, 2, 68],
-        &[1, 2, 69],
-        &[1, 2, 3, 66, 65],
-    ] {
+    for plan in NOT_BASIC {
         let marks = vec![1; plan.len()];
         assert_eq!(numbers(&tables, plan, &marks, 1), [(70, 0); 2], "{plan:?}");
     }

@@ -1,8 +1,8 @@
 //! Prints, as Markdown tables, what a step takes: in the proved library, in an unverified plain
 //! Rust version of the same algorithm, and in Maude; and what a character of a text, a message to
 //! a walk, a judgement of a plan, a count of paths and a question whether one action comes before
-//! another take in the first two. Ends at the first call on which the proved library and the plain
-//! version differ.
+//! another, which the plain version answers by another algorithm, take in the first two. Ends at
+//! the first call on which the proved library and the plain version differ.
 
 use benchmarks::contenders::{PLAIN, PROVED, REFERENCE};
 use benchmarks::maude;
@@ -439,9 +439,9 @@ fn preceding_actions() {
         "takes one pass over the words, and the library two. Crusted coin: the plan that the bench"
     );
     println!(
-        "comes to. Deep: a chain of actions. Wide: a sum of products. Random: sums and products,"
+        "comes to. Deep: a chain of actions. Wide: a sum of products, behind two actions. Random:"
     );
-    println!("drawn at random.\n");
+    println!("sums and products drawn at random, behind one action.\n");
     println!("| plan | words | answer | call: proved | plain | proved/plain | a word: proved | plain | words alone: proved | plain | proved/plain |");
     println!("|---|--:|---|--:|--:|--:|--:|--:|--:|--:|--:|");
     let mut ratios: [Vec<f64>; 2] = Default::default();

@@ -1,4 +1,5 @@
-//! The library's algorithm in plain Rust, without proofs. Nothing is allocated.
+//! The library's algorithm in plain Rust, without proofs; for precedence another one. Nothing is
+//! allocated.
 //!
 //! The unfolding works on a graph of terms alone, the checker on a gap buffer alone. Each file
 //! uses only files before it in its row, and those of the first row:

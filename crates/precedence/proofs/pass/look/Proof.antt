@@ -65,7 +65,7 @@ same-length c = search needs
 returns : tie.Need-returns
 returns c =
     let s = start (c .before .before) in
-    looked-sum (s .pre .0) _ (s .pre .1) _ _ (s .pre .2) (c .before .if1 .taken) _ (at-sum (c .before) .first-there)
+    looked-sum (s .pre .0) _ _ _ (s .pre .2) (c .before .if1 .taken) _ (at-sum (c .before) .first-there)
 
 sub-operand-2 : tie.Need-sub-operand-2
 sub-operand-2 c = at-product c .some-word
@@ -101,17 +101,17 @@ returns-2 : tie.Need-returns-2
 returns-2 c =
     let k = c .before .before .before in
     let s = start (k .before .before) in
-    looked-product (s .pre .0) _ (s .pre .1) _ _ (s .pre .2) (k .if2 .taken) _ _ (at-product k .first-there) (c .behind .ensures)
+    looked-product (s .pre .0) _ _ _ (s .pre .2) (k .if2 .taken) _ _ (at-product k .first-there) (c .behind .ensures)
 
 returns-3 : tie.Need-returns-3
 returns-3 c =
     let s = start (c .before .before .before) in
-    looked-action (s .pre .0) _ (s .pre .1) _ _ (s .pre .2) (c .before .before .if1 .left) (c .before .if2 .left) (test-same (getD (s .args .plan .now) (s .args .i) 0) (s .args .second) (getD (s .args .seen .now) (s .args .i) 0) (c .if3 .taken))
+    looked-action (s .pre .0) _ _ _ (s .pre .2) (c .before .before .if1 .left) (c .before .if2 .left) (test-same (getD (s .args .plan .now) (s .args .i) 0) (s .args .second) (getD (s .args .seen .now) (s .args .i) 0) (c .if3 .taken))
 
 returns-4 : tie.Need-returns-4
 returns-4 c =
     let s = start (c .before .before .before) in
-    looked-action (s .pre .0) _ (s .pre .1) _ _ (s .pre .2) (c .before .before .if1 .left) (c .before .if2 .left) (test-other (getD (s .args .plan .now) (s .args .i) 0) (s .args .second) (getD (s .args .seen .now) (s .args .i) 0) (c .if3 .left))
+    looked-action (s .pre .0) _ _ _ (s .pre .2) (c .before .before .if1 .left) (c .before .if2 .left) (test-other (getD (s .args .plan .now) (s .args .i) 0) (s .args .second) (getD (s .args .seen .now) (s .args .i) 0) (c .if3 .left))
 
 pub look-spec : {M : Type 1} → statement M
 look-spec =

@@ -55,7 +55,7 @@ same-length c = search needs
 returns : tie.Need-returns
 returns c =
     let s = c .before .before .before in
-    looked-sum (s .pre .0) _ (s .pre .1) _ (c .before .if1 .taken) _ (at-sum (c .before) .first-there)
+    looked-sum (s .pre .0) _ _ (c .before .if1 .taken) _ (at-sum (c .before) .first-there)
 
 sub-second-2 : tie.Need-sub-second-2
 sub-second-2 c = at-product c .some-word
@@ -85,18 +85,18 @@ returns-2 : tie.Need-returns-2
 returns-2 c =
     let s = c .before .before .before .before .before .before in
     let k = c .before .before .before in
-    looked-product (s .pre .0) _ (s .pre .1) _ (k .if2 .taken) _ (at-product k .first-there) (c .if3 .taken)
+    looked-product (s .pre .0) _ _ (k .if2 .taken) _ (at-product k .first-there) (c .if3 .taken)
 
 returns-3 : tie.Need-returns-3
 returns-3 c =
     let s = c .before .before .before .before .before .before in
     let k = c .before .before .before in
-    looked-other (s .pre .0) _ (s .pre .1) _ (k .if2 .taken) _ (at-product k .first-there) (c .if3 .left)
+    looked-other (s .pre .0) _ _ (k .if2 .taken) _ (at-product k .first-there) (c .if3 .left)
 
 returns-4 : tie.Need-returns-4
 returns-4 c =
     let s = c .before .before .before in
-    looked-action (s .pre .0) _ (s .pre .1) _ (c .before .if1 .left) (c .if2 .left)
+    looked-action (s .pre .0) _ _ (c .before .if1 .left) (c .if2 .left)
 
 pub look-spec : {M : Type 1} → statement M
 look-spec =
