@@ -5,6 +5,19 @@ use crate::tables::{
     communication, entry, judge_tables, COMMUNICATION, MOST_ACTIONS, PRIORITY, SETS, TABLES_LENGTH,
 };
 
+/// Faults of the trial tables, one or two for each of refusals 2 to 8: the index of a byte, what it is
+/// set to, the refusal's number and its printed place.
+pub const TRIAL_FAULTS: [(usize, u8, u8, usize); 8] = [
+    (0, 0, 2, 0),
+    (0, 32, 2, 0),
+    (1 + 32 + 5, 1, 3, 38),
+    (1 + 1, 1, 4, 2),
+    (66, 0, 5, 35),
+    (1 + 32 * 3 + 3, 1, 6, 1024 + 32 * 2 + 3),
+    (1026, 0, 7, 1026),
+    (1025 + 32 * 4 + 1, 1, 8, 1024 + 32 * 4),
+];
+
 /// A communication function on 1 to m, as a closure on two actions.
 type Together = Box<dyn Fn(u8, u8) -> u8>;
 

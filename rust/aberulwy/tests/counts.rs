@@ -3,6 +3,7 @@
 use aberulwy::examples::trial_tables;
 use aberulwy::*;
 use reference::random::plans::{any_plan, basic_plan, repeating_basic_plan, NOT_BASIC};
+use reference::random::tables::TRIAL_FAULTS;
 use reference::random::walks::nearly_basic_plan;
 use reference::random::Random;
 use reference::stations::write_station;
@@ -124,16 +125,7 @@ fn refusals_set_both_to_0() {
         refused(&[], plan, 1, 0);
         refused(&tables[1..], plan, 1, 0);
         refused(&[&tables[..], &[0]].concat(), plan, 1, 0);
-        for (index, byte, number, place) in [
-            (0, 0, 2, 0),
-            (0, 32, 2, 0),
-            (1 + 32 + 5, 1, 3, 38),
-            (1 + 1, 1, 4, 2),
-            (66, 0, 5, 35),
-            (1 + 32 * 3 + 3, 1, 6, 1024 + 32 * 2 + 3),
-            (1026, 0, 7, 1026),
-            (1025 + 32 * 4 + 1, 1, 8, 1024 + 32 * 4),
-        ] {
+        for (index, byte, number, place) in TRIAL_FAULTS {
             let mut damaged = tables;
             damaged[index] = byte;
             refused(&damaged, plan, number, place);

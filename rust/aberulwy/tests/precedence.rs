@@ -4,6 +4,7 @@ use aberulwy::examples::trial_tables;
 use aberulwy::*;
 use reference::random::plans::{basic_plan, repeating_basic_plan, NOT_BASIC};
 use reference::random::precedence::precedence_case;
+use reference::random::tables::TRIAL_FAULTS;
 use reference::random::Random;
 use Precedence::{No, Yes};
 
@@ -212,16 +213,7 @@ fn the_order_of_refusals() {
             refused(&[], plan, pair, 1, 0);
             refused(&tables[1..], plan, pair, 1, 0);
             refused(&[&tables[..], &[0]].concat(), plan, pair, 1, 0);
-            for (index, byte, number, place) in [
-                (0, 0, 2, 0),
-                (0, 32, 2, 0),
-                (1 + 32 + 5, 1, 3, 38),
-                (1 + 1, 1, 4, 2),
-                (66, 0, 5, 35),
-                (1 + 32 * 3 + 3, 1, 6, 1024 + 32 * 2 + 3),
-                (1026, 0, 7, 1026),
-                (1025 + 32 * 4 + 1, 1, 8, 1024 + 32 * 4),
-            ] {
+            for (index, byte, number, place) in TRIAL_FAULTS {
                 let mut damaged = tables;
                 damaged[index] = byte;
                 refused(&damaged, plan, pair, number, place);

@@ -3,6 +3,7 @@
 use aberulwy::examples::trial_tables;
 use aberulwy::*;
 use reference::random::plans::NOT_BASIC;
+use reference::random::tables::TRIAL_FAULTS;
 use std::collections::BTreeSet;
 
 /// The words of the longest basic plans: there is one sign less than there are actions.
@@ -262,15 +263,7 @@ fn the_order_of_refusals() {
     let (basic, other, no_plan) = ([1, 2, 65], [1, 2, 66], [1, 2]);
     // The tables' faults, with every other fault there too.
     assert_eq!(numbers(&tables[1..], &no_plan, &[], 0), both(1, 0));
-    for (index, byte, number, place) in [
-        (0, 32, 2, 0),
-        (1 + 32 + 5, 1, 3, 38),
-        (1 + 1, 1, 4, 2),
-        (66, 0, 5, 35),
-        (1 + 32 * 3 + 3, 1, 6, 1024 + 32 * 2 + 3),
-        (1026, 0, 7, 1026),
-        (1025 + 32 * 4 + 1, 1, 8, 1024 + 32 * 4),
-    ] {
+    for (index, byte, number, place) in TRIAL_FAULTS {
         let answered = numbers(&damaged(index, byte), &no_plan, &[], 0);
         assert_eq!(answered, both(number, place), "{index}");
     }
