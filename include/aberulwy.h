@@ -23,7 +23,7 @@
 #include <stddef.h>
 #include <stdint.h>
 
-#define ABERULWY_VERSION "0.9.0"
+#define ABERULWY_VERSION "0.10.0"
 
 #ifdef __cplusplus
 extern "C" {
@@ -75,9 +75,17 @@ uint8_t aberulwy_check_rewriting(const uint8_t *tables, size_t tables_len, const
 
 /* Reads a station file into a tables area and a plan area. Returns 0, and then *size is the plan's length; the tables stand in the first 2,305
  * bytes of their area and the plan in the first *size bytes of its own, with zeros behind both. Or returns 51 to 55, then 1 to 8, 11 to 14, which
- * leave the areas as they are. */
+ * leave the areas as they are. A file is read, in areas that hold it, exactly when it is the one that aberulwy_write_station writes from some tables
+ * and some plan, and these are what is read: that is proved. */
 uint8_t aberulwy_read_station(const uint8_t *file, size_t file_len, uint8_t *tables, size_t tables_len, uint8_t *plan, size_t plan_len,
                               size_t *size, size_t *place);
+
+/* Writes the station file of tables and a plan into an area. Returns 0, and then *size is the file's length: 512 bytes for each block, 5 of the tables and
+ * one of the plan for each 504 words or part of them (19,456 bytes for the longest plan). The file stands first in the area, and zeros behind. Or returns
+ * 1 to 8, 11 to 14, then 74 where the area is shorter than the file: the area then keeps its bytes. What aberulwy_read_station takes from the file, into
+ * areas that hold it, is those tables and that plan: that is proved. */
+uint8_t aberulwy_write_station(const uint8_t *tables, size_t tables_len, const uint8_t *plan, size_t plan_len, uint8_t *file, size_t file_len,
+                               size_t *size, size_t *place);
 
 /* Reads a text, a plan typed in signs, into a plan area. Returns 0, and then *size is the plan's length; its words stand first in the area, and
  * zeros behind. Or returns 1 to 8; then the first of 61 (a character that cannot go on, a text that ends too early, an action above n) and 62 (a

@@ -2,8 +2,9 @@
 //!
 //! `counts [cases] [seed]`
 
-use reference::random::cases::{check_case, own_rewriting_case, station_case, unfold_case};
+use reference::random::cases::{check_case, own_rewriting_case, unfold_case};
 use reference::random::precedence::precedence_case;
+use reference::random::stations::{station_case, write_case};
 use reference::random::texts::text_case;
 use reference::random::walks::{fresh_walk_case, walk_case};
 use reference::random::Random;
@@ -21,7 +22,7 @@ fn main() {
     let mut number = |default| given.next().map_or(default, |text| text.parse().unwrap());
     let (cases, seed) = (number(20_000), number(1));
     let mut random = Random::new(seed);
-    let kinds: [(&str, Kind); 7] = [
+    let kinds: [(&str, Kind); 8] = [
         ("unfolding, then its own rewriting checked", unfolding),
         ("checking", checking),
         ("station files", stations),
@@ -29,6 +30,7 @@ fn main() {
         ("fresh walks", fresh_walks),
         ("messages", messages),
         ("precedence", precedence),
+        ("station files written", written_stations),
     ];
     for (name, kind) in kinds {
         let (counts, slowest, time) = count(cases, &mut random, kind);
@@ -86,6 +88,10 @@ fn messages(random: &mut Random) -> u8 {
 
 fn precedence(random: &mut Random) -> u8 {
     number(precedence_case(random).run())
+}
+
+fn written_stations(random: &mut Random) -> u8 {
+    number(write_case(random).run().answer)
 }
 
 /// The number of a refusal, 0 where there is none.

@@ -45,7 +45,7 @@
 use crate::plans::{
     CHOICE, COMMUNICATION_MERGE, ENCAPSULATION, LEFT_MERGE, MERGE, PRODUCT, THETA, UNLESS,
 };
-use crate::stations::{write_station, CONTENT, MOST_BLOCKS, TABLE_BLOCKS};
+use crate::stations::{station_file, CONTENT, MOST_BLOCKS, TABLE_BLOCKS};
 use crate::tables::{entry, COMMUNICATION, DEAD_STOP, MOST_ACTIONS, PRIORITY, SETS, TABLES_LENGTH};
 use crate::texts::{judge_text, words};
 use std::error::Error;
@@ -246,7 +246,7 @@ impl Told {
                 })?
             }
         };
-        Ok(write_station(&self.tables, &plan))
+        Ok(station_file(&self.tables, &plan))
     }
 }
 

@@ -1,4 +1,20 @@
-//! Station files and the program.
+//! Station files, read and written, and the program.
+//!
+//! ```
+//! use reference::stations::{read_station, write_station};
+//! use reference::tables::trial_tables;
+//! use reference::Refusal;
+//!
+//! let (tables, plan, mut area) = (trial_tables(), [1, 2, 66], [9; 3073]);
+//! let short = write_station(&tables, &plan, &mut area[..3071]);
+//! assert_eq!(short, Err(Refusal::nowhere(74)));
+//! assert_eq!(write_station(&tables, &plan, &mut area), Ok(3072));
+//! assert_eq!(area[3072], 0);
+//! let (mut tables_read, mut plan_read) = ([9; 2305], [9; 4]);
+//! let read = read_station(&area[..3072], &mut tables_read, &mut plan_read);
+//! assert_eq!((read, plan_read), (Ok(3), [1, 2, 66, 0]));
+//! assert_eq!(tables_read, tables[..]);
+//! ```
 
 use crate::plans::{counts, judge, Counts};
 use crate::refusals::Refusal;
@@ -117,9 +133,25 @@ fn contents(file: &[u8]) -> Vec<u8> {
         .collect()
 }
 
-/// A station file for tables of 2,305 bytes and a plan of 1 to 16,632 bytes; neither is
-/// judged.
-pub fn write_station(tables: &[u8], plan: &[u8]) -> Vec<u8> {
+/// Writes a station file into an area, and answers the file's length. "From accepted tables and
+/// plan, write the blocks." (Request 106.)
+pub fn write_station(tables: &[u8], plan: &[u8], area: &mut [u8]) -> Result<usize, Refusal> {
+    // "Tables and plan are checked by 1 to 14 first."
+    judge(tables, plan)?;
+    let file = station_file(tables, plan);
+    // "After those, an area shorter than the file gets 74 and keeps its bytes."
+    if area.len() < file.len() {
+        return Err(Refusal::nowhere(74));
+    }
+    // "A longer one is zero past the file."
+    set(area, &file);
+    Ok(file.len())
+}
+
+/// The blocks for tables of 2,305 bytes and a plan of 1 to 16,632 bytes. Neither is judged: a
+/// file of refused tables, or of a refused plan, is made just so, and it is the reader that turns
+/// it back.
+pub fn station_file(tables: &[u8], plan: &[u8]) -> Vec<u8> {
     assert_eq!(tables.len(), TABLES_LENGTH);
     let tables = tables.chunks(CONTENT).map(|part| (KIND_TABLES, part));
     let plan = plan.chunks(CONTENT).map(|part| (KIND_PLAN, part));

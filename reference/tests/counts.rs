@@ -8,7 +8,7 @@ use reference::random::plans::{any_plan, basic_plan, every_plan, repeating_basic
 use reference::random::walks::{nearly_basic_plan, walked_plan};
 use reference::random::Random;
 use reference::reading::{paths_of, Path};
-use reference::stations::{program, write_station};
+use reference::stations::{program, station_file};
 use reference::tables::trial_tables;
 use reference::trees::{Forest, Tree};
 use std::collections::BTreeSet;
@@ -259,7 +259,7 @@ fn the_tree_has_the_same_paths() {
 #[test]
 fn first_lines() {
     let first = |plan: &[u8]| {
-        let text = program(&write_station(&trial_tables(), plan));
+        let text = program(&station_file(&trial_tables(), plan));
         text.lines().next().unwrap().to_string()
     };
     let cases: [(&[u8], &str); 8] = [
@@ -293,7 +293,7 @@ fn the_first_line_counts_the_plan_below_it() {
             4 => merged(&mut random),
             _ => any_plan(&mut random, 4),
         };
-        let text = program(&write_station(&trial_tables(), &plan));
+        let text = program(&station_file(&trial_tables(), &plan));
         let line = |index| text.lines().nth(index).unwrap_or_default();
         let head: Vec<&str> = line(0).split(' ').collect();
         let ["end", end, "steps", _, "size", size, "orders", orders, "stuck", stuck] = head[..]

@@ -4,6 +4,7 @@ use reference::checking;
 use reference::plans::{judge_plan, judged_orders, Counts, LONGEST_PLAN};
 use reference::random::cases::{check_case, unfold_case, CheckCase, UnfoldCase};
 use reference::random::plans::damaged_plan;
+use reference::random::stations::{write_case, WriteCase};
 use reference::random::tables::damaged_tables;
 use reference::random::Random;
 use reference::random::{cases, walks};
@@ -356,3 +357,64 @@ fn note_claimed(met: &mut Met, case: &CheckCase, number: u8) {
         number == 16 && case.rewriting.len() % 3 == 2,
     );
 }
+
+#[test]
+fn edges_of_writing() {
+    let (mut random, mut met) = (Random::new(48), Met::default());
+    for _ in 0..8000 {
+        let case = write_case(&mut random);
+        let (words, area) = (case.plan.len(), case.area.len());
+        let file = 512 * (5 + words.div_ceil(504));
+        match case.run().answer {
+            Ok(_) => {
+                met.note("written, no byte over", area == file);
+                met.note("written, one byte over", area == file + 1);
+                met.note("written, a block over", area == file + 512);
+                met.note("written, 38 blocks over", area > file + 38 * 512);
+                for (kind, size) in SIZES_WRITTEN {
+                    met.note(kind, words == size);
+                }
+            }
+            Err(refusal) => note_not_written(&mut met, &case, refusal.number, file),
+        }
+    }
+    met.assert_all();
+}
+
+fn note_not_written(met: &mut Met, case: &WriteCase, number: u8, file: usize) {
+    let (words, area) = (case.plan.len(), case.area.len());
+    let (tables, plan) = (number <= 8, (11..=14).contains(&number));
+    met.note("74 without an area", number == 74 && area == 0);
+    met.note("74 by one byte", number == 74 && area + 1 == file);
+    met.note("74 by a block", number == 74 && area + 512 == file);
+    met.note("74 by the plan's blocks", number == 74 && area == 5 * 512);
+    met.note("74, longest plan", number == 74 && words == LONGEST_PLAN);
+    met.note("tables refused, no area", tables && area == 0);
+    met.note("tables refused, one byte short", tables && area + 1 == file);
+    met.note("tables refused, room", tables && area >= file);
+    met.note("plan refused, no area", plan && area == 0);
+    met.note("plan refused, one byte short", plan && area + 1 == file);
+    met.note("plan refused, room", plan && area >= file);
+    met.note("11 empty", number == 11 && words == 0);
+    let over = words == LONGEST_PLAN + 1;
+    met.note("11 one word more", number == 11 && over);
+    // A plan is judged by n, so it is asked only where n is right.
+    let both = (3..=8).contains(&number) && judge_plan(&case.tables, &case.plan).is_err();
+    met.note("tables and plan refused", both);
+}
+
+/// Sizes of plans that are written, at the edges of blocks.
+const SIZES_WRITTEN: [(&str, usize); 12] = [
+    ("written, 1 word", 1),
+    ("written, 503 words", 503),
+    ("written, 504 words", 504),
+    ("written, 505 words", 505),
+    ("written, 1,007 words", 1007),
+    ("written, 1,008 words", 1008),
+    ("written, 1,009 words", 1009),
+    ("written, 16,127 words", 16_127),
+    ("written, 16,128 words", 16_128),
+    ("written, 16,129 words", 16_129),
+    ("written, 16,383 words", 16_383),
+    ("written, 16,384 words", 16_384),
+];

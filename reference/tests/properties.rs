@@ -8,9 +8,10 @@ use reference::random::plans::{
     any_plan, basic_plan, every_plan, plan, plan_with_left_side, small_plan,
 };
 use reference::random::rewritings::derivation;
+use reference::random::stations::{any_file, station_case};
 use reference::random::tables::{lawful_tables, lawful_tables_over};
 use reference::random::Random;
-use reference::stations::{program, read_station, write_station};
+use reference::stations::{program, read_station, station_file};
 use reference::tables::{judge_tables, trial_tables, TABLES_LENGTH};
 use reference::trees::alike;
 use reference::unfolding::{self, unfold};
@@ -235,7 +236,7 @@ fn station_files_are_read_back() {
     for _ in 0..1000 {
         let tables = lawful_tables(&mut random);
         let plan = any_plan(&mut random, tables[0]);
-        let file = write_station(&tables, &plan);
+        let file = station_file(&tables, &plan);
         let (mut got_tables, mut got_plan) = (vec![3; TABLES_LENGTH + 2], vec![3; plan.len() + 1]);
         let read = read_station(&file, &mut got_tables, &mut got_plan);
         assert_eq!(read, Ok(plan.len()));
@@ -262,7 +263,7 @@ fn refused_files_touch_nothing() {
 fn the_program_prints_what_was_reached() {
     let mut random = Random::new(12);
     for _ in 0..300 {
-        let (file, _) = station_file(&mut random);
+        let (file, _) = any_file(&mut random);
         let printed = program(&file);
         let first: Vec<&str> = printed.lines().next().unwrap().split(' ').collect();
         if first[0] == "refused" {
@@ -285,16 +286,16 @@ fn program_refuses() {
     let tables = trial_tables();
     assert_eq!(program(&[]), "refused 51 0\n");
     assert_eq!(
-        program(&write_station(&tables, &[64, 255])),
+        program(&station_file(&tables, &[64, 255])),
         "refused 13 0\n"
     );
     assert_eq!(
-        program(&write_station(&tables, &[1; 8193])),
+        program(&station_file(&tables, &[1; 8193])),
         "refused 55 0\n"
     );
     let mut broken = tables.clone();
     broken[1 + 32 * 3 + 3] = 1;
-    assert_eq!(program(&write_station(&broken, &[1])), "refused 6 1091\n");
+    assert_eq!(program(&station_file(&broken, &[1])), "refused 6 1091\n");
 }
 
 #[test]

@@ -1,6 +1,8 @@
-//! Every number of `docs/NUMBERS.md` is reached by the random cases.
+//! Every number that unfolding, checking and reading a station file answer is reached by the random
+//! cases. Those of the other calls are looked for beside their tests.
 
-use reference::random::cases::{check_case, station_case, unfold_case};
+use reference::random::cases::{check_case, unfold_case};
+use reference::random::stations::station_case;
 use reference::random::Random;
 use std::collections::BTreeSet;
 

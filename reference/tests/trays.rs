@@ -2,7 +2,7 @@
 
 use reference::plans::{counts, is_basic, Counts};
 use reference::random::cases::{own_rewriting_case, UnfoldCase, Unfolded};
-use reference::stations::{program, write_station};
+use reference::stations::{program, station_file};
 use reference::tables::trial_tables;
 use reference::trees::alike;
 use reference::unfolding::{record, Answer};
@@ -90,7 +90,7 @@ fn case_1_printed() {
     let printed = "end 0 steps 4 size 9 orders 3 stuck 0\n\
                    1 2 65 2 1 65 64 3 64\n\
                    11 2\n12 2\n12 5\n10 9\n";
-    assert_eq!(program(&write_station(&trial_tables(), CASE_1[0])), printed);
+    assert_eq!(program(&station_file(&trial_tables(), CASE_1[0])), printed);
 }
 
 #[test]

@@ -1,7 +1,7 @@
 -- What an acceptance answered means, and what the answers on accepted plans say.
 use Prim.Native.Nat.{ℕ, _≤_}
 use native.Mathlib.Omega.{arith}
-use mathlib.Core.Path.{_≡_, refl, sym, _∙_, ap, subst}
+use mathlib.Core.Path.{_≡_, refl, _∙_, ap, subst}
 use mathlib.Core.Bool.{Bool, true, false}
 use mathlib.Core.List.{List, [], _∷_}
 use mathlib.Core.Logic.{_↔_}
@@ -9,9 +9,8 @@ use mathlib.Core.Option.{Option, none, some}
 use lib.ListN.{length}
 use Rattle.refusals.specs.declared.Refusal.{Refusal}
 use Rattle.refusals.specs.declared.Judgement.{Judgement}
-use Rattle.refusals.specs.declared.Judgement.the-variants.{Accepted}
 use Rattle.refusals.specs.Refusal.{judged, report, reported}
-use Rattle.refusals.proofs.Judging.{accepted-none, report-judged}
+use Rattle.refusals.proofs.Judging.{report-judged}
 use Rattle.tables.specs.Tables.{Tables, actions}
 use Rattle.plans.specs.declared.Counts.{Counts}
 use Rattle.plans.specs.Judging.{plan-refusal}
@@ -25,10 +24,6 @@ use Rattle.aberulwy.specs.declared.BasicAnswer.the-variants.{Yes}
 use Rattle.aberulwy.specs.declared.OrdersAnswer.the-variants.{Counted}
 use Rattle.aberulwy.specs.Judging.{basic-of, basic-answer, basic-report, bit, orders-given, orders-answer, OrdersClaims}
 use Rattle.areas.specs.Area.{most-words}
-
--- a call that judges accepts exactly what is refused nothing
-pub accepts-iff : (o : Option Refusal) (r : Judgement) (P : Type 0) → r ≡ judged o → (o ≡ none) ↔ P → (r ≡ Accepted) ↔ P
-accepts-iff o r P e h = (λ q. h .0 (accepted-none o (sym e ∙ q)), λ p. e ∙ ap judged (h .1 p))
 
 pub numbers-of : (o : Option Refusal) (r : Judgement) → r ≡ judged o → report r ≡ reported o []
 numbers-of o r e = ap report e ∙ report-judged o

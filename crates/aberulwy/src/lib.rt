@@ -15,10 +15,11 @@ use refusals::Refusal;
 use stations::StationRead;
 use texts::TextRead;
 use unfolding::Unfolded;
+use writing::StationWritten;
 ghost use mathlib.Core.Path.{_≡_};
 ghost use mathlib.Core.List.{[]};
 ghost use mathlib.Core.Logic.{_↔_};
-ghost use lib.ListN.{take};
+ghost use lib.ListN.{length, take};
 ghost use Rattle.refusals.specs.declared.Judgement.the-variants.{Accepted};
 ghost use Rattle.refusals.specs.Refusal.{judged, report, reported};
 ghost use Rattle.tables.specs.Judging.{table-refusal};
@@ -26,6 +27,8 @@ ghost use Rattle.tables.specs.Lawful.{Lawful};
 ghost use Rattle.plans.specs.Judging.{plan-refusal};
 ghost use Rattle.plans.specs.Accepted.{AcceptedPlan, BasicPlan};
 ghost use Rattle.stations.specs.File.{station-outcome, station-report, station-reported, StationOutcome};
+ghost use Rattle.writing.specs.Writing.{write-outcome, written-report, write-reported, WriteOutcome};
+ghost use Rattle.writing.specs.Claims.{WriteClaims, ReadClaims};
 ghost use Rattle.texts.specs.Text.{text-outcome, text-report, text-reported, TextOutcome};
 ghost use Rattle.texts.specs.Claims.{TextClaims};
 ghost use Rattle.walks.specs.Outcome.{WalkOutcome, not-walkable-refusal, fresh-outcome, walk-refusal, walk-outcome};
@@ -181,13 +184,27 @@ pub fn reached<'a>(a: &'a [u8], b: &'a [u8], steps: usize, size: usize) -> &'a [
 }
 
 // Reads a station file into a tables area and a plan area: the plan's length, or refusals 51 to 55, then 1 to 8, 11 to 14, which leave the areas
-// as they are.
+// as they are. A file is read, in areas that hold it, exactly when it is the one that `write_station` writes from some tables and some plan.
 pub fn read_station(file: &[u8], tables: &mut [u8], plan: &mut [u8]) -> StationRead
     ensures whole { λ r. ⌜ _≡_ {A = StationOutcome} (record { answer = r; tables = now (tables .exit); plan = now (plan .exit) })
         (station-outcome (now (file .entry)) (now (tables .entry)) (now (plan .entry))) ⌝ }
     ensures numbers { λ r. ⌜ station-report r ≡ station-reported (now (file .entry)) (now (tables .entry)) (now (plan .entry)) ⌝ }
+    ensures claims { λ r. ⌜ ReadClaims (now (file .entry)) (now (tables .entry)) (now (plan .entry))
+        (record { answer = r; tables = now (tables .exit); plan = now (plan .exit) }) ⌝ }
 {
     stations::read_station(file, tables, plan)
+}
+
+// Writes the station file of tables and a plan into an area, zeros after: the file's length. Refusals 1 to 8, 11 to 14, then 74 for an area shorter
+// than the file, leave the area as it is. What `read_station` takes from the file, into areas that hold it, is those tables and that plan.
+pub fn write_station(tables: &[u8], plan: &[u8], area: &mut [u8]) -> StationWritten
+    ensures whole { λ r. ⌜ _≡_ {A = WriteOutcome} (record { answer = r; area = now (area .exit) })
+        (write-outcome (now (tables .entry)) (now (plan .entry)) (now (area .entry))) ⌝ }
+    ensures numbers { λ r. ⌜ written-report r ≡ write-reported (now (tables .entry)) (now (plan .entry)) (length (now (area .entry))) ⌝ }
+    ensures claims { λ r. ⌜ WriteClaims (now (tables .entry)) (now (plan .entry)) (now (area .entry))
+        (record { answer = r; area = now (area .exit) }) ⌝ }
+{
+    writing::write_station(tables, plan, area)
 }
 
 // Reads a text, a plan typed in signs, into a plan area: the plan's length, or refusals 1 to 8, then the first of 61 and 62 in the text, then 63,

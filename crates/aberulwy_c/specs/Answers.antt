@@ -13,6 +13,7 @@ use Rattle.tables.specs.Tables.{Tables}
 use Rattle.unfolding.specs.Unfolding.{unfold-outcome, UnfoldOutcome}
 use Rattle.checking.specs.Checking.{check-outcome, CheckOutcome}
 use Rattle.stations.specs.File.{station-outcome, station-report, StationOutcome}
+use Rattle.writing.specs.Writing.{write-outcome, written-report, WriteOutcome}
 use Rattle.texts.specs.Text.{text-outcome, text-report, TextOutcome}
 use Rattle.walks.specs.Progress.{Progress}
 use Rattle.walks.specs.Outcome.{WalkOutcome, fresh-outcome, walk-outcome}
@@ -60,6 +61,13 @@ of-station o = returned 1 (station-report (o .answer)) (o .tables ∷ o .plan �
 
 abbrev pub station-returned : List ℕ → List ℕ → List ℕ → Returned
 station-returned file tables plan = of-station (station-outcome file tables plan)
+
+-- a station file written: the file's size; the area
+abbrev pub of-written : WriteOutcome → Returned
+of-written o = returned 1 (written-report (o .answer)) (o .area ∷ [])
+
+abbrev pub written-returned : Tables → List ℕ → List ℕ → Returned
+written-returned tables plan area = of-written (write-outcome tables plan area)
 
 -- a text read: the plan's size; the plan
 abbrev pub of-text : TextOutcome → Returned

@@ -1,5 +1,5 @@
 -- What is claimed of the calls for C and Rust: the claims of the calls below, of the answer that the numbers seen tell. (Demands 2, 3; requests
--- 101 to 103, 105.)
+-- 101 to 103, 105, 106.)
 use Prim.Native.Nat.{ℕ, _≤_}
 use mathlib.Core.Path.{_≡_}
 use mathlib.Core.Bool.{Bool}
@@ -13,6 +13,11 @@ use Rattle.unfolding.specs.declared.Unfolded.{Unfolded}
 use Rattle.unfolding.specs.declared.Unfolded.the-variants.{Finished, Stopped, Refused as Not-unfolded}
 use Rattle.checking.specs.declared.Checked.{Checked}
 use Rattle.checking.specs.declared.Checked.the-variants.{Accepted, TurnedBack, Refused as Not-checked}
+use Rattle.stations.specs.declared.StationRead.{StationRead}
+use Rattle.stations.specs.declared.StationRead.the-variants.{Read as Station-read, Refused as Station-not-read}
+use Rattle.writing.specs.declared.StationWritten.{StationWritten}
+use Rattle.writing.specs.declared.StationWritten.the-variants.{Written as Station-written, Refused as Station-not-written}
+use Rattle.writing.specs.Claims.{ReadClaims, WriteClaims}
 use Rattle.texts.specs.declared.TextRead.{TextRead}
 use Rattle.texts.specs.declared.TextRead.the-variants.{Read, Refused as Not-read}
 use Rattle.texts.specs.Claims.{TextClaims}
@@ -51,6 +56,16 @@ pub data CheckedAs : Checked → ℕ → ℕ → ℕ → ℕ → Type 0 where
 pub data OwnAs : OwnCheck → ℕ → ℕ → ℕ → ℕ → ℕ → Type 0 where
   made : (answer : Checked) (number place steps size : ℕ) → CheckedAs answer number place steps size → OwnAs (Checked-as answer) 1 number place steps size
   not-made : OwnAs NotChecked 0 0 0 0 0
+
+-- The answer of reading a station file by the number answered and the place and size set: 0 is read, 1 to 55 are refusals.
+pub data StationReadAs : StationRead → ℕ → ℕ → ℕ → Type 0 where
+  read : (size : ℕ) → StationReadAs (Station-read size) 0 0 size
+  refused : (f : Refusal) → 1 ≤ f .number → f .number ≤ 55 → StationReadAs (Station-not-read f) (f .number) (printed (f .place)) 0
+
+-- The answer of writing one by the same numbers: 0 is written, 1 to 74 are refusals.
+pub data StationWrittenAs : StationWritten → ℕ → ℕ → ℕ → Type 0 where
+  written : (size : ℕ) → StationWrittenAs (Station-written size) 0 0 size
+  refused : (f : Refusal) → 1 ≤ f .number → f .number ≤ 74 → StationWrittenAs (Station-not-written f) (f .number) (printed (f .place)) 0
 
 -- The answer of reading a text by the number answered and the place and size set: 0 is read, 1 to 63 are refusals.
 pub data TextReadAs : TextRead → ℕ → ℕ → ℕ → Type 0 where
@@ -106,6 +121,18 @@ pub record OwnSeen (a b c d : List ℕ) (n : BothNumbers) : Type 0 where
   pub seen : UnfoldedAs unfolded (n .number) (n .place) (n .steps) (n .size)
   pub own-seen : OwnAs own (n .checked) (n .own-number) (n .own-place) (n .own-steps) (n .own-size)
   pub accepts : OwnAccepted unfolded own a b c d
+
+-- Of a station file read that left these bytes in the tables area and the plan area.
+pub record StationReadSeen (file tables plan tables-left plan-left : List ℕ) (number place size : ℕ) : Type 0 where
+  pub answer : StationRead
+  pub seen : StationReadAs answer number place size
+  pub claims : ReadClaims file tables plan (record { answer = answer; tables = tables-left; plan = plan-left })
+
+-- Of a station file written that left these bytes in the area.
+pub record StationWrittenSeen (tables : Tables) (plan area left : List ℕ) (number place size : ℕ) : Type 0 where
+  pub answer : StationWritten
+  pub seen : StationWrittenAs answer number place size
+  pub claims : WriteClaims tables plan area (record { answer = answer; area = left })
 
 -- Of a text read that left these bytes in the plan area.
 pub record TextSeen (tables : Tables) (text area left : List ℕ) (number place size : ℕ) : Type 0 where

@@ -12,6 +12,7 @@ use refusals::Refusal;
 use stations::StationRead;
 use texts::TextRead;
 use unfolding::Unfolded;
+use writing::StationWritten;
 ghost use mathlib.Core.Path.{_≡_};
 ghost use mathlib.Core.List.{_∷_, []};
 ghost use mathlib.Core.Logic.{_↔_};
@@ -31,11 +32,11 @@ ghost use Rattle.listing.specs.Listing.{listing};
 ghost use Rattle.listing.specs.Writing.{most};
 ghost use Rattle.listing.specs.Endings.{Endings};
 ghost use Rattle.aberulwy_c.specs.Answers.{Returned, returned, HandedOver, handed-over};
-ghost use Rattle.aberulwy_c.specs.Answers.{unfold-returned, check-returned, both-returned, station-returned, text-returned};
+ghost use Rattle.aberulwy_c.specs.Answers.{unfold-returned, check-returned, both-returned, station-returned, written-returned, text-returned};
 ghost use Rattle.aberulwy_c.specs.Answers.{fresh-returned, walk-returned};
 ghost use Rattle.aberulwy_c.specs.Handing.{Answered, MaybeAnswered, WalkAnswered};
 ghost use Rattle.aberulwy_c.specs.Seen.{OrdersSeen, UnfoldSeen, CheckSeen, StepSeen, OwnSeen, TextSeen, FreshSeen, WalkSeen};
-ghost use Rattle.aberulwy_c.specs.Seen.{PrecedenceSeen};
+ghost use Rattle.aberulwy_c.specs.Seen.{PrecedenceSeen, StationReadSeen, StationWrittenSeen};
 
 // Answers a refusal's number and sets its place.
 fn refuse(refusal: Refusal, place: &mut usize) -> u8
@@ -398,6 +399,8 @@ pub extern "C" fn aberulwy_read_station(
           areas = now (tables .exit) ∷ now (plan .exit) ∷ [];
         })
         (station-returned (now (file .entry)) (now (tables .entry)) (now (plan .entry))) ⌝ }
+    ensures claims { λ r. ⌜ StationReadSeen (now (file .entry)) (now (tables .entry)) (now (plan .entry)) (now (tables .exit)) (now (plan .exit))
+        r (now (place .exit)) (now (size .exit)) ⌝ }
 {
     *size = 0;
     *place = 0;
@@ -407,6 +410,38 @@ pub extern "C" fn aberulwy_read_station(
             0
         }
         StationRead::Refused(refusal) => refuse(refusal, place),
+    }
+}
+
+// Writes the station file of tables and a plan into an area, zeros after: 0 with the file's length; or the number of the refusal and its place, and then
+// the area keeps its bytes.
+#[no_mangle]
+pub extern "C" fn aberulwy_write_station(
+    tables: &[u8],
+    plan: &[u8],
+    file: &mut [u8],
+    size: &mut usize,
+    place: &mut usize,
+) -> u8
+    ensures whole { λ r. ⌜ _≡_ {A = Returned}
+        (record {
+          number = r;
+          place = now (place .exit);
+          values = now (size .exit) ∷ [];
+          areas = now (file .exit) ∷ [];
+        })
+        (written-returned (now (tables .entry)) (now (plan .entry)) (now (file .entry))) ⌝ }
+    ensures claims { λ r. ⌜ StationWrittenSeen (now (tables .entry)) (now (plan .entry)) (now (file .entry)) (now (file .exit))
+        r (now (place .exit)) (now (size .exit)) ⌝ }
+{
+    *size = 0;
+    *place = 0;
+    match aberulwy::write_station(tables, plan, file) {
+        StationWritten::Written { size: written } => {
+            *size = written;
+            0
+        }
+        StationWritten::Refused(refusal) => refuse(refusal, place),
     }
 }
 

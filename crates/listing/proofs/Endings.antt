@@ -8,6 +8,7 @@ use mathlib.Core.Option.{Option, none, some}
 use lib.ListN.{length}
 use lib.Dec.{leb}
 use borrow.Author.Tests.{le-ltb}
+use Rattle.refusals.specs.Refusal.{refuse-unless}
 use Rattle.refusals.specs.declared.Refusal.{Refusal}
 use Rattle.refusals.proofs.Judging.{none-of-both}
 use Rattle.tables.specs.Tables.{Tables, actions}
@@ -16,7 +17,6 @@ use Rattle.plans.specs.Orders.{no-paths}
 use Rattle.plans.specs.Judging.{plan-refusal}
 use Rattle.plans.proofs.Accepted.{accepted-plan, basic-plan}
 use Rattle.plans.proofs.Orders.{some-counted}
-use Rattle.stations.specs.Block.{refuse-unless}
 use Rattle.stations.specs.File.{form-refusal, held-refusal, file-refusal, tables-held, plan-held}
 use Rattle.stations.proofs.Reading.{areas-fit}
 use Rattle.paths.proofs.Counts.{counts-claimed}
@@ -48,7 +48,7 @@ module _ (f : List ℕ) where
   sound e =
       let h = none-of-both (form-refusal f) (held-refusal (tables-held f) (plan-held f) 2305 8192) .0 e .1 in (
         areas-fit (tables-held f) (plan-held f) 2305 8192 h .1,
-        none-of-both (refuse-unless 55 (leb 2305 2305 && leb (length (plan-held f)) 8192)) (plan-refusal (tables-held f) (plan-held f)) .0 h .1,
+        none-of-both (refuse-unless (leb 2305 2305 && leb (length (plan-held f)) 8192) 55) (plan-refusal (tables-held f) (plan-held f)) .0 h .1,
       )
 
   unfolds : file-refusal f 2305 8192 ≡ none → unfold-refusal (tables-held f) (plan-held f) 8192 ≡ none

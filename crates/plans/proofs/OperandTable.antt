@@ -1,4 +1,4 @@
--- Every byte takes as many operands as the table of 256 entries gave it, which the code had before its formula. (02, #104.)
+-- Every byte takes as many operands as the table of 256 entries gave it, which the code had before its formula. (Request 104.)
 use Prim.Native.Nat.{ℕ, _<_}
 use mathlib.Core.Path.{_≡_, sym}
 use mathlib.Core.List.{List, [], _∷_}

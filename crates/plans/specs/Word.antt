@@ -40,7 +40,7 @@ unfolding sign-of
 word-of n w = cond (leb w n) (Action w) (sign-of w)
 
 -- "how many operands each byte takes: 0 for 0 to 31, 2 or 1 for the signs, 3 for any other byte";
--- "Work the count out by a formula over the ranges of words." (02, #104.)
+-- "Work the count out by a formula over the ranges of words." (Request 104.)
 unfoldable pub operands-of : ℕ → ℕ
 operands-of w = cond (leb w 31) 0 (cond (leb 64 w && leb w 69) 2 (cond (eqb w 70) 1 (cond (leb 80 w && leb w 87) 1 3)))
 

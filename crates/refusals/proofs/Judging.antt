@@ -1,11 +1,12 @@
 -- What an answer that judges says of the refusal behind it.
 use Prim.Native.Nat.{ℕ}
 use native.Mathlib.Omega.{arith}
-use mathlib.Core.Path.{_≡_, refl, sym}
+use mathlib.Core.Path.{_≡_, refl, sym, _∙_, ap}
 use mathlib.Core.List.{[]}
 use mathlib.Core.Logic.{_↔_}
 use mathlib.Core.Option.{Option, none, some}
 use Rattle.refusals.specs.declared.Refusal.{Refusal}
+use Rattle.refusals.specs.declared.Judgement.{Judgement}
 use Rattle.refusals.specs.declared.Judgement.the-variants.{Accepted, Refused}
 use Rattle.refusals.specs.Refusal.{or-else, judged, report, reported}
 
@@ -19,6 +20,10 @@ accepted-none (some r) e = let q : _≡_ {A = ℕ} 0 1 = cc in absurd (omega ari
 pub refused-some : (o : Option Refusal) (r : Refusal) → judged o ≡ Refused r → o ≡ some r
 refused-some none r e = let q : _≡_ {A = ℕ} 0 1 = cc in absurd (omega arith)
 refused-some (some f) r e = cc
+
+-- a call that judges accepts exactly what is refused nothing
+pub accepts-iff : (o : Option Refusal) (r : Judgement) (P : Type 0) → r ≡ judged o → (o ≡ none) ↔ P → (r ≡ Accepted) ↔ P
+accepts-iff o r P e h = (λ q. h .0 (accepted-none o (sym e ∙ q)), λ p. e ∙ ap judged (h .1 p))
 
 -- there is no first refusal of two exactly where there is none of either
 pub none-of-both : (a b : Option Refusal) → (or-else a b ≡ none) ↔ ((a ≡ none) × (b ≡ none))

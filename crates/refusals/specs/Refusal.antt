@@ -1,6 +1,6 @@
 -- What answers say in document 01's numbers. (01, "Turned back by what was handed in".)
 use Prim.Native.Nat.{ℕ, _+_, _*_}
-use mathlib.Core.Bool.{Bool, true, false}
+use mathlib.Core.Bool.{Bool, true, false, cond}
 use mathlib.Core.List.{List, []}
 use mathlib.Core.Option.{Option, none, some}
 use Rattle.refusals.specs.declared.Place.{Place}
@@ -24,6 +24,10 @@ refuse k p = some (record { number = k; place = p })
 abbrev pub refuse-if : Bool → ℕ → Option Refusal
 refuse-if true k = refuse k Nowhere
 refuse-if false k = none
+
+-- refusal k, which names no place, where a test is not met
+abbrev pub refuse-unless : Bool → ℕ → Option Refusal
+refuse-unless met k = cond met none (refuse k Nowhere)
 
 -- "each just when its condition is the first to hold": the first refusal of two, in order
 abbrev pub or-else : Option Refusal → Option Refusal → Option Refusal

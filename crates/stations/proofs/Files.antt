@@ -1,10 +1,12 @@
 -- Blocks of a file: how long each is, and the search through them.
-use Prim.Native.Nat.{ℕ, suc, _+_, _-_, _*_, _≤_, _<_}
-use mathlib.Core.Path.{_≡_, sym, _∙_, ap}
+use Prim.Native.Nat.{ℕ, zero, suc, _+_, _-_, _*_, _≤_, _<_}
+use mathlib.Core.Path.{_≡_, refl, sym, _∙_, ap}
 use mathlib.Core.Bool.{true}
 use mathlib.Core.List.{List}
+use mathlib.Core.Logic.{⊎-elim}
 use mathlib.Core.Option.{Option, none, some}
 use native.Mathlib.Omega.{arith}
+use native.Mathlib.Nat.{eq-or-lt-of-le}
 use native.Mathlib.Numerals.{add-one}
 use lib.ListN.{length, take, drop, length-drop}
 use lib.Seq.{length-take-le}
@@ -12,8 +14,26 @@ use Rattle.refusals.specs.declared.Refusal.{Refusal}
 use Rattle.refusals.specs.declared.Judgement.{Judgement}
 use Rattle.refusals.specs.Refusal.{judged}
 use Rattle.tables.specs.Search.{first-of, first-from}
-use Rattle.stations.specs.Block.{block-refusal}
+use Rattle.blocks.specs.Block.{block-refusal}
 use Rattle.stations.specs.File.{blocks, block, length-right, form-refusal}
+
+-- nothing found at any of m numbers from k on
+none-first : (a b : Option Refusal) → first-of a b ≡ none → (a ≡ none) × (b ≡ none)
+none-first none b e = (refl, e)
+none-first (some r) b e = let q : _≡_ {A = ℕ} 0 1 = cc in absurd (omega arith)
+
+pub nowhere : (g : ℕ → Option Refusal) (k m i : ℕ) → k ≤ i → i < k + m → first-from g k m ≡ none → g i ≡ none
+unfolding first-from
+nowhere g k zero i a b e = absurd (omega arith)
+nowhere g k (suc m) i a b e =
+    let h = none-first (g k) (first-from g (suc k) m) e in
+    ⊎-elim (λ (q : k ≡ i). rw (← q) (h .0)) (λ (q : k < i). nowhere g (suc k) m i (omega arith) (omega arith) (h .1)) (eq-or-lt-of-le a)
+
+-- and the other way round
+pub found-nowhere : (g : ℕ → Option Refusal) (k m : ℕ) → ((i : ℕ) → k ≤ i → i < k + m → g i ≡ none) → first-from g k m ≡ none
+unfolding first-from
+found-nowhere g k zero e = refl
+found-nowhere g k (suc m) e = rw (e k (omega arith) (omega arith), found-nowhere g (suc k) m (λ i a b. e i (omega arith) (omega arith)))
 
 pub block-long : (f : List ℕ) (i : ℕ) → i < blocks f → length (block f i) ≡ 512
 unfolding blocks block

@@ -7,21 +7,21 @@ use native.Mathlib.Numerals.{add-one}
 use lib.ListN.{length, length-append}
 use Rattle.areas.specs.Area.{overwrite}
 use Rattle.areas.proofs.Area.{overwrite-two, overwrite-none}
-use Rattle.stations.specs.Block.{used}
-use Rattle.stations.specs.File.{block, held}
+use Rattle.blocks.specs.Block.{used}
+use Rattle.stations.specs.File.{block, held, joined}
 
 -- what the blocks from i to e hold
 abbrev pub left : List ℕ → ℕ → ℕ → List ℕ
 left f e i = held f i (e - i)
 
 left-next : (f : List ℕ) (e i : ℕ) → i < e → left f e i ≡ used (block f i) ++ left f e (i + 1)
-unfolding held
+unfolding joined
 left-next f e i h =
     let q : e - i ≡ suc (e - (i + 1)) = omega arith in
     rw (q, add-one i)
 
 left-none : (f : List ℕ) (e i : ℕ) → e ≤ i → left f e i ≡ []
-unfolding held
+unfolding joined
 left-none f e i h =
     let q : e - i ≡ 0 = omega arith in
     rw q

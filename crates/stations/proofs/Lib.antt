@@ -1,7 +1,5 @@
-mod Answers
-pub mod Blocks
-mod Files
+pub mod Files
 pub mod Forms
 mod Gathering
 pub mod Reading
-mod Examples
+pub mod Examples

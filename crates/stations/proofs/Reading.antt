@@ -1,5 +1,5 @@
 -- What reading a file comes to, by what judging it finds; and what the arrays hold that its blocks were copied into.
-use Prim.Native.Nat.{ℕ, _+_, _-_, _≤_}
+use Prim.Native.Nat.{ℕ, _+_, _≤_}
 use mathlib.Core.Path.{_≡_, refl, sym, _∙_}
 use mathlib.Core.Bool.{_&&_}
 use mathlib.Core.List.{List, [], _∷_, append-nil}
@@ -11,15 +11,14 @@ use borrow.Author.Tests.{leb-true}
 use Rattle.refusals.specs.declared.Refusal.{Refusal}
 use Rattle.refusals.specs.declared.Judgement.{Judgement}
 use Rattle.refusals.specs.declared.Judgement.the-variants.{Accepted, Refused as TurnedDown}
-use Rattle.refusals.specs.Refusal.{judged, reported}
+use Rattle.refusals.specs.Refusal.{refuse-unless, judged, reported}
 use Rattle.refusals.proofs.Judging.{accepted-none, refused-some, none-of-both}
 use Rattle.areas.specs.Area.{overwrite, padded}
 use Rattle.areas.proofs.Area.{take-overwrite}
 use Rattle.plans.specs.Judging.{plan-refusal}
 use Rattle.stations.specs.declared.StationRead.the-variants.{Read, Refused}
-use Rattle.stations.specs.Block.{refuse-unless}
 use Rattle.stations.specs.File.{tables-held, plan-held, form-refusal, held-refusal, file-refusal, StationOutcome, unless-refused, station-outcome, station-report}
-use Rattle.stations.proofs.Answers.{met, both}
+use Rattle.blocks.proofs.Answers.{met, both}
 
 -- an array that the words fill, and the front of one that they do not
 pub filled : (d w : List ℕ) → length w ≡ length d → overwrite d 0 w ≡ w
@@ -39,7 +38,7 @@ module _ (ht hp : List ℕ) (a b : ℕ) where
   unfolding held-refusal
   areas-fit e =
       let h = both (leb 2305 a) (leb (length hp) b)
-      (met 55 (leb 2305 a && leb (length hp) b) (none-of-both (refuse-unless 55 (leb 2305 a && leb (length hp) b)) (plan-refusal ht hp) .0 e .0)) in
+      (met 55 (leb 2305 a && leb (length hp) b) (none-of-both (refuse-unless (leb 2305 a && leb (length hp) b) 55) (plan-refusal ht hp) .0 e .0)) in
       (leb-true 2305 a (h .0), leb-true (length hp) b (h .1))
 
 -- the outcome by the answer of a judge

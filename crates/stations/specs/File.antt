@@ -6,13 +6,13 @@ use mathlib.Core.Option.{Option, none, some}
 use lib.ListN.{length, take, drop}
 use lib.Dec.{eqb, leb}
 use Rattle.refusals.specs.declared.Refusal.{Refusal}
-use Rattle.refusals.specs.Refusal.{or-else, Report, refused-report, reported}
+use Rattle.refusals.specs.Refusal.{refuse-unless, or-else, Report, refused-report, reported}
 use Rattle.areas.specs.Area.{padded}
+use Rattle.blocks.specs.Block.{used, block-refusal}
 use Rattle.tables.specs.Search.{first-from}
 use Rattle.plans.specs.Judging.{plan-refusal}
 use Rattle.stations.specs.declared.StationRead.{StationRead}
 use Rattle.stations.specs.declared.StationRead.the-variants.{Read, Refused}
-use Rattle.stations.specs.Block.{used, refuse-unless, block-refusal}
 
 -- "blocks of 512 bytes": how many, and block i
 unfoldable pub blocks : List ℕ → ℕ
@@ -25,10 +25,14 @@ block f i = take 512 (drop (512 * i) f)
 unfoldable pub length-right : List ℕ → Bool
 length-right f = eqb (length f % 512) 0 && (leb 6 (blocks f) && leb (blocks f) 38)
 
+-- what g gives for the m numbers i, i + 1, …, one behind the other
+unfoldable pub joined : (ℕ → List ℕ) → ℕ → ℕ → List ℕ
+joined g i zero = []
+joined g i (suc m) = g i ++ joined g (suc i) m
+
 -- what the m blocks from block i on hold
-unfoldable pub held : List ℕ → ℕ → ℕ → List ℕ
-held f i zero = []
-held f i (suc m) = used (block f i) ++ held f (suc i) m
+abbrev pub held : List ℕ → ℕ → ℕ → List ℕ
+held f i m = joined (λ k. used (block f k)) i m
 
 -- the tables and the plan: "Blocks 0 to 3 … and block 4 … of tables; plan blocks follow"
 unfoldable pub tables-held : List ℕ → List ℕ
@@ -39,12 +43,12 @@ plan-held f = held f 5 (blocks f - 5)
 
 -- "51 length; then block by block 52 sum, 53 number, 54 kind, count or filling"
 unfoldable pub form-refusal : List ℕ → Option Refusal
-form-refusal f = or-else (refuse-unless 51 (length-right f)) (first-from (λ i. block-refusal (blocks f) i (block f i)) 0 (blocks f))
+form-refusal f = or-else (refuse-unless (length-right f) 51) (first-from (λ i. block-refusal (blocks f) i (block f i)) 0 (blocks f))
 
 -- "55 tables area below 2,305 bytes, or plan longer than its area; then 1 to 14": tables, a plan and the lengths of the areas
 unfoldable pub held-refusal : List ℕ → List ℕ → ℕ → ℕ → Option Refusal
 held-refusal tables plan tables-area plan-area =
-    or-else (refuse-unless 55 (leb 2305 tables-area && leb (length plan) plan-area)) (plan-refusal tables plan)
+    or-else (refuse-unless (leb 2305 tables-area && leb (length plan) plan-area) 55) (plan-refusal tables plan)
 
 -- a file and the lengths of the areas
 unfoldable pub file-refusal : List ℕ → ℕ → ℕ → Option Refusal

@@ -1,14 +1,12 @@
 // A station file by its blocks: its form, and what its blocks hold.
 ghost use mathlib.Core.Path.{_≡_};
 ghost use mathlib.Core.Option.{none};
-ghost use Prim.Native.Nat.{_+_, _-_, _≤_};
+ghost use Prim.Native.Nat.{_-_, _≤_};
 ghost use lib.ListN.{length};
 ghost use Rattle.refusals.specs.Refusal.{judged};
-ghost use Rattle.areas.specs.Area.{overwrite, Written};
-ghost use Rattle.stations.specs.Block.{count-of, used};
+ghost use Rattle.areas.specs.Area.{overwrite};
 ghost use Rattle.stations.specs.File.{blocks, length-right, held, form-refusal, held-refusal, StationOutcome, unless-refused};
 use super::StationRead;
-use super::block;
 use refusals::Judgement;
 
 // The length of tables, and of the longest plan that 33 blocks hold.
@@ -25,11 +23,11 @@ const MOST: usize = 38;
 pub fn length_right(file: &[u8]) -> bool
     ensures whole { λ r. ⌜ r ≡ length-right (now (file .entry)) ⌝ }
 {
-    if file.len() % block::BYTES != 0 {
+    if file.len() % blocks::BYTES != 0 {
         return false;
     }
-    let blocks = file.len() / block::BYTES;
-    FEWEST <= blocks && blocks <= MOST
+    let count = file.len() / blocks::BYTES;
+    FEWEST <= count && count <= MOST
 }
 
 // Refusals 51 to 54: the length, then block by block.
@@ -37,28 +35,18 @@ pub fn judge_form(file: &[u8]) -> Judgement
     ensures whole { λ r. ⌜ r ≡ judged (form-refusal (now (file .entry))) ⌝ }
 {
     if !length_right(file) {
-        return block::refused(51);
+        return refusals::refused(51);
     }
-    let blocks = file.len() / block::BYTES;
-    for i in 0..blocks {
-        let start = block::BYTES * i;
-        let end = start + block::BYTES;
-        let found = block::judge_block(&file[start..end], blocks, i);
+    let count = file.len() / blocks::BYTES;
+    for i in 0..count {
+        let start = blocks::BYTES * i;
+        let end = start + blocks::BYTES;
+        let found = blocks::judge_block(&file[start..end], count, i);
         let Judgement::Accepted = found else {
             return found;
         };
     }
     Judgement::Accepted
-}
-
-// Copies what a block holds into an area at a place; the place after it.
-pub fn put_used(block: &[u8], area: &mut [u8], at: usize) -> usize
-    requires { ⌜ (length (now block) ≡ 512) × (count-of (now block) ≤ 504) × (at + length (used (now block)) ≤ length (now area)) ⌝ }
-    ensures { λ r. ⌜ Written (now (area .entry)) (now (area .exit)) at (used (now (block .entry))) r ⌝ }
-{
-    let start = block::HEAD;
-    let end = start + (block::word_at(block, block::COUNT) as usize);
-    areas::copy_in(&block[start..end], area, at)
 }
 
 // Copies what the blocks from the first up to an end hold into an area; how many bytes that is.
@@ -70,9 +58,9 @@ pub fn gather(file: &[u8], first: usize, end: usize, area: &mut [u8]) -> usize
 {
     let mut at: usize = 0;
     for i in first..end {
-        let start = block::BYTES * i;
-        let stop = start + block::BYTES;
-        at = put_used(&file[start..stop], area, at);
+        let start = blocks::BYTES * i;
+        let stop = start + blocks::BYTES;
+        at = blocks::put_used(&file[start..stop], area, at);
     }
     at
 }
@@ -82,10 +70,10 @@ pub fn judge_held(tables: &[u8], plan: &[u8], tables_area: usize, plan_area: usi
     ensures whole { λ r. ⌜ r ≡ judged (held-refusal (now (tables .entry)) (now (plan .entry)) «tables_area» «plan_area») ⌝ }
 {
     if tables_area < TABLES {
-        return block::refused(55);
+        return refusals::refused(55);
     }
     if plan_area < plan.len() {
-        return block::refused(55);
+        return refusals::refused(55);
     }
     plans::judge_plan(tables, plan)
 }

@@ -4,7 +4,6 @@ ghost use Rattle.stations.specs.File.{StationOutcome, station-outcome};
 use refusals::Judgement;
 use refusals::Refusal;
 
-mod block;
 mod file;
 
 // A file read, with the length of its plan; or the refusal.
@@ -23,8 +22,8 @@ pub fn read_station(file: &[u8], tables: &mut [u8], plan: &mut [u8]) -> StationR
     }
     let mut held_tables = [0u8; file::TABLES];
     let mut held_plan = [0u8; file::LONGEST];
-    let blocks = file.len() / block::BYTES;
-    file::gather(file, 0, block::TABLE_BLOCKS, &mut held_tables);
-    let size = file::gather(file, block::TABLE_BLOCKS, blocks, &mut held_plan);
+    let count = file.len() / blocks::BYTES;
+    file::gather(file, 0, blocks::TABLE_BLOCKS, &mut held_tables);
+    let size = file::gather(file, blocks::TABLE_BLOCKS, count, &mut held_plan);
     file::deliver(&held_tables, &held_plan[..size], tables, plan)
 }

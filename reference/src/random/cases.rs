@@ -1,4 +1,5 @@
-//! Whole cases: everything that is handed to a call, and what comes out of it.
+//! Whole cases of unfolding and checking: everything that is handed to a call, and what comes out
+//! of it.
 
 use super::plans::{any_plan, damaged_plan, plan, small_plan};
 use super::rewritings::{damage_rewriting, derivation, Derivation};
@@ -7,14 +8,12 @@ use super::Random;
 use crate::checking::{self, check_rewriting};
 use crate::laws::{apply, next_step};
 use crate::plans::{judge, LONGEST_PLAN};
-use crate::refusals::Refusal;
 use crate::runs::reached;
-use crate::stations::{put_sum, put_word, read_station, write_station, BLOCK, CONTENT, HEAD};
-use crate::tables::{trial_tables, TABLES_LENGTH};
+use crate::tables::trial_tables;
 use crate::unfolding::{self, unfold, RECORD};
 
 /// Lengths of areas worth trying whatever the plan.
-const AREA_EDGES: [usize; 8] = [0, 1, 2, 10, 8192, 16_383, 16_384, 16_385];
+pub(super) const AREA_EDGES: [usize; 8] = [0, 1, 2, 10, 8192, 16_383, 16_384, 16_385];
 
 /// What is handed to the unfolding.
 #[derive(Clone, Debug)]
@@ -115,41 +114,6 @@ impl CheckCase {
             &mut b,
         );
         Checked { answer, a, b }
-    }
-}
-
-/// What is handed to the reader of station files.
-#[derive(Clone, Debug)]
-pub struct StationCase {
-    /// The file.
-    pub file: Vec<u8>,
-    /// The tables area, with the bytes it has before.
-    pub tables: Vec<u8>,
-    /// The plan area, with the bytes it has before.
-    pub plan: Vec<u8>,
-}
-
-/// What the reader answers, and the lent bytes afterwards.
-#[derive(Clone, Debug, PartialEq, Eq)]
-pub struct StationRead {
-    /// The plan's length, or the refusal.
-    pub answer: Result<usize, Refusal>,
-    /// The tables area.
-    pub tables: Vec<u8>,
-    /// The plan area.
-    pub plan: Vec<u8>,
-}
-
-impl StationCase {
-    /// Reads, leaving the case as it is.
-    pub fn run(&self) -> StationRead {
-        let (mut tables, mut plan) = (self.tables.clone(), self.plan.clone());
-        let answer = read_station(&self.file, &mut tables, &mut plan);
-        StationRead {
-            answer,
-            tables,
-            plan,
-        }
     }
 }
 
@@ -315,91 +279,4 @@ pub fn own_rewriting_case(case: &UnfoldCase) -> Option<CheckCase> {
         a: case.a.clone(),
         b: case.b.clone(),
     })
-}
-
-/// A case for the reader of station files: mostly a right file, or one with one damage.
-pub fn station_case(random: &mut Random) -> StationCase {
-    let (file, words) = station_file(random);
-    let tables = match random.below(8) {
-        0 => random.near(TABLES_LENGTH, &[0, 1, 504, 4096]),
-        _ => TABLES_LENGTH + random.below(3),
-    };
-    let plan = match random.below(6) {
-        0 => random.near(words, &AREA_EDGES),
-        1 => words,
-        _ => words + random.below(40),
-    };
-    StationCase {
-        file,
-        tables: random.lent(tables),
-        plan: random.lent(plan),
-    }
-}
-
-/// A file, and the words of the plan it was made for.
-pub fn station_file(random: &mut Random) -> (Vec<u8>, usize) {
-    let (mut tables, plan) = tables_and_plan(random);
-    tables.resize(TABLES_LENGTH, 0);
-    let plan = match random.below(12) {
-        0 => filled_plan(random, tables[0]),
-        _ if plan.is_empty() => vec![0],
-        _ => plan,
-    };
-    let mut file = write_station(&tables, &plan);
-    if random.once_in(3) {
-        damage_file(random, &mut file);
-        while random.once_in(4) {
-            damage_file(random, &mut file);
-        }
-    }
-    (file, plan.len())
-}
-
-/// A plan that fills its last block, or is longer than a plan may be.
-fn filled_plan(random: &mut Random, n: u8) -> Vec<u8> {
-    let size = random.pick(&[
-        CONTENT - 1,
-        CONTENT,
-        CONTENT + 1,
-        2 * CONTENT,
-        8192,
-        8193,
-        LONGEST_PLAN,
-        LONGEST_PLAN + 1,
-        33 * CONTENT,
-    ]);
-    plan(random, n.clamp(1, 31), size)
-}
-
-fn damage_file(random: &mut Random, file: &mut Vec<u8>) {
-    let blocks = file.len() / BLOCK;
-    if blocks == 0 || random.once_in(6) {
-        let length = BLOCK * random.pick(&[0, 1, 5, 6, 38, 39, blocks + 1]);
-        return file.resize(random.near(length, &[0, 1, file.len() + 1]), 0);
-    }
-    let any = random.below(blocks);
-    let index = random.pick(&[0, 3, 4, 5, blocks - 1, any]).min(blocks - 1);
-    let block = &mut file[BLOCK * index..BLOCK * (index + 1)];
-    damage_block(random, block, index);
-    if !random.once_in(4) {
-        put_sum(block);
-    }
-}
-
-fn damage_block(random: &mut Random, block: &mut [u8], index: usize) {
-    match random.below(6) {
-        0 => put_word(block, 0, random.pick(&[index + 1, index + 256, 0, 65_535])),
-        1 => put_word(block, 2, random.pick(&[0, 1, 2, 3, 257, 258])),
-        2 => put_word(
-            block,
-            4,
-            random.pick(&[0, 1, 288, 289, 290, 503, 504, 505, 65_535]),
-        ),
-        3 => block[HEAD + CONTENT - 1] ^= random.pick(&[1, 64, 128]),
-        4 => block[random.below(BLOCK)] ^= 1 << random.below(8),
-        _ => {
-            let count = block[4] as usize + 256 * block[5] as usize;
-            block[HEAD + count.min(CONTENT - 1)] = 1;
-        }
-    }
 }

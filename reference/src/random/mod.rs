@@ -5,6 +5,7 @@ pub mod cases;
 pub mod plans;
 pub mod precedence;
 pub mod rewritings;
+pub mod stations;
 pub mod tables;
 pub mod texts;
 pub mod walks;

@@ -2,11 +2,11 @@
 //!
 //! The library judges *tables* (2,305 bytes: communication, priority, blocked sets) and
 //! *plans* (postfix words, one byte each), unfolds a plan to a basic one by laws 5 to 32,
-//! records the steps, checks anybody's rewriting by all thirty-two laws, reads and lists station
-//! files, reads plans typed in signs, walks through a basic plan message by message, and says
-//! whether one action comes before another on all its paths. Every call takes slices of any length;
-//! what is malformed is refused with a number and a place, and then nothing lent is changed.
-//! Nothing is allocated.
+//! records the steps, checks anybody's rewriting by all thirty-two laws, reads, writes and lists
+//! station files, reads plans typed in signs, walks through a basic plan message by message, and
+//! says whether one action comes before another on all its paths. Every call takes slices of any
+//! length; what is malformed is refused with a number and a place, and then nothing lent is
+//! changed. Nothing is allocated.
 //!
 //! ```
 //! use aberulwy::{unfold, Ending};
@@ -43,6 +43,9 @@
 //! Before any message, [`precedes`] tells whether a photograph can overtake its weight: whether on
 //! some path of the plan one action comes with none of another before it.
 //!
+//! A station file holds tables and a plan: [`write_station`] writes it, and [`read_station`] takes
+//! both from it again.
+//!
 //! The repository's `docs/FORMATS.md` draws tables, plans, texts, rewritings, areas, marks and
 //! station files, and `docs/NUMBERS.md` lists the words, the laws, the endings and the refusals.
 //!
@@ -78,7 +81,7 @@ pub use checking::{check_rewriting, Checked, Verdict};
 pub use judging::{count_orders, is_basic, judge_plan, judge_tables, Counts};
 pub use precedence::{precedes, Precedence};
 pub use refusals::{Place, Refusal};
-pub use stations::{list_station, read_station};
+pub use stations::{list_station, read_station, write_station};
 pub use texts::read_text;
 pub use unfolding::{copy_reached, unfold, unfold_checked, Ending, Unfolded, UnfoldedChecked};
 pub use walks::{fresh_walk, walk};
@@ -87,6 +90,8 @@ pub use walks::{fresh_walk, walk};
 pub const TABLES_LENGTH: usize = 2305;
 /// The words of the longest plan.
 pub const LONGEST_PLAN: usize = 16_384;
+/// The bytes of the longest station file, 38 blocks of 512; none is longer.
+pub const LONGEST_STATION: usize = 19_456;
 /// The bytes of the longest listing; none is longer.
 pub const LONGEST_LISTING: usize = 93_000;
 /// The bytes of one record: law, then place, low byte first.

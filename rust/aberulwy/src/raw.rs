@@ -224,6 +224,17 @@ mod archive {
             place: *mut usize,
         ) -> u8;
 
+        pub fn aberulwy_write_station(
+            tables: *const u8,
+            tables_len: usize,
+            plan: *const u8,
+            plan_len: usize,
+            file: *mut u8,
+            file_len: usize,
+            size: *mut usize,
+            place: *mut usize,
+        ) -> u8;
+
         pub fn aberulwy_read_text(
             tables: *const u8,
             tables_len: usize,
@@ -610,6 +621,42 @@ pub fn read_station(file: &[u8], tables_area: &mut [u8], plan_area: &mut [u8]) -
             tables_area.len(),
             plan_area.as_mut_ptr(),
             plan_area.len(),
+            &mut value,
+            &mut place,
+        )
+    };
+    Counted {
+        number,
+        value,
+        place,
+    }
+}
+
+/// Writes a station file, zeros behind, and answers the file's length: 0; or 1 to 8, 11 to 14, 74
+/// with every lent byte kept.
+///
+/// ```
+/// use aberulwy::raw::{write_station, Counted};
+///
+/// let (tables, mut file) = (aberulwy::examples::trial_tables(), [7; 3073]);
+/// let written = write_station(&tables, &[1, 2, 66], &mut file);
+/// assert_eq!(written, Counted { number: 0, value: 3072, place: 0 });
+/// assert_eq!(file[..3072], include_bytes!("../../../examples/trays/tray-1.station")[..]);
+/// assert_eq!(file[3072], 0);
+/// let refused = write_station(&tables, &[1, 2, 66], &mut file[..3071]);
+/// assert_eq!(refused, Counted { number: 74, value: 0, place: 0 });
+/// ```
+pub fn write_station(tables: &[u8], plan: &[u8], file_area: &mut [u8]) -> Counted {
+    let (mut value, mut place) = (NOT_SET, NOT_SET);
+    // SAFETY: see the head of this file.
+    let number = unsafe {
+        archive::aberulwy_write_station(
+            tables.as_ptr(),
+            tables.len(),
+            plan.as_ptr(),
+            plan.len(),
+            file_area.as_mut_ptr(),
+            file_area.len(),
             &mut value,
             &mut place,
         )

@@ -138,6 +138,7 @@ impl Refusal {
             71 => "the message is an action outside 1 to n",
             72 => "no path goes on with the message",
             73 => "the two actions are equal, or one of them is outside 1 to n",
+            74 => "the area is shorter than what is to be written into it",
             _ => "an unlisted reason",
         }
     }
@@ -172,7 +173,7 @@ mod tests {
         assert_eq!(Refusal::new(55, 0).place(), Place::Nowhere);
         assert_eq!(Refusal::new(61, 7).place(), Place::Byte(7));
         assert_eq!(Refusal::new(62, 201).place(), Place::Byte(201));
-        for number in [63, 70, 71, 72, 73] {
+        for number in [63, 70, 71, 72, 73, 74] {
             assert_eq!(Refusal::new(number, 0).place(), Place::Nowhere);
         }
     }

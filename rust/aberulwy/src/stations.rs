@@ -6,6 +6,9 @@ use crate::{raw, Refusal};
 /// Reads a station file, as `docs/FORMATS.md` draws it: its tables go to one area, its plan to
 /// the other, zeros behind. Answers the plan's length.
 ///
+/// A file is read, in areas that hold it, exactly when it is the one that [`write_station`] writes
+/// from some tables and some plan, and these are what is read.
+///
 /// # Errors
 ///
 /// Refusals 51 to 54 for the file; 55 for a tables area below 2,305 bytes, or a plan area
@@ -37,6 +40,42 @@ pub fn read_station(
     plan_area: &mut [u8],
 ) -> Result<usize, Refusal> {
     counted(raw::read_station(file, tables_area, plan_area))
+}
+
+/// Writes a station file, as `docs/FORMATS.md` draws it: its blocks go to the beginning of the
+/// area, zeros behind. Answers the file's length, 512 bytes for each block: five hold the tables,
+/// and each further one up to 504 words of the plan.
+///
+/// What [`read_station`] takes from a written file, into areas that hold it, is these tables and
+/// this plan; and any file that it accepts is the one written from what it read.
+///
+/// # Errors
+///
+/// Refusals 1 to 8, and 11 to 14; then 74 for an area shorter than the file, which one of
+/// [`LONGEST_STATION`](crate::LONGEST_STATION) bytes never is. The area then keeps its bytes.
+///
+/// ```
+/// use aberulwy::{read_station, write_station, Place, TABLES_LENGTH};
+///
+/// let (tables, plan) = (aberulwy::examples::trial_tables(), [1, 2, 66]);
+/// let mut area = [7; 4000];
+/// let size = write_station(&tables, &plan, &mut area)?;
+/// assert_eq!(size, 6 * 512);
+/// assert_eq!(area[..size], include_bytes!("../../../examples/trays/tray-1.station")[..]);
+/// assert_eq!(area[size..], [0; 928]);
+///
+/// // Read again, it gives the same tables and the same plan.
+/// let (mut tables_read, mut plan_read) = ([7; TABLES_LENGTH], [7; 3]);
+/// let words = read_station(&area[..size], &mut tables_read, &mut plan_read)?;
+/// assert_eq!((words, tables_read, plan_read), (3, tables, plan));
+///
+/// // An area one byte shorter than the file.
+/// let refusal = write_station(&tables, &plan, &mut area[..size - 1]).unwrap_err();
+/// assert_eq!((refusal.number(), refusal.place()), (74, Place::Nowhere));
+/// # Ok::<(), aberulwy::Refusal>(())
+/// ```
+pub fn write_station(tables: &[u8], plan: &[u8], file_area: &mut [u8]) -> Result<usize, Refusal> {
+    counted(raw::write_station(tables, plan, file_area))
 }
 
 /// Lists a station file: everything that the program prints for it, refusals too, as text at

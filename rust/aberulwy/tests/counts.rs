@@ -6,7 +6,6 @@ use reference::random::plans::{any_plan, basic_plan, repeating_basic_plan, NOT_B
 use reference::random::tables::TRIAL_FAULTS;
 use reference::random::walks::nearly_basic_plan;
 use reference::random::Random;
-use reference::stations::write_station;
 
 /// The words of the longest basic plans: there is one sign less than there are actions.
 const LONGEST_BASIC: usize = LONGEST_PLAN - 1;
@@ -237,9 +236,9 @@ fn random_plans_basic_or_not() {
 
 /// The first line of a station file's listing, from `orders` on.
 fn printed(plan: &[u8]) -> String {
-    let file = write_station(&trial_tables(), plan);
-    let mut out = vec![7; LONGEST_LISTING];
-    let text = list_station(&file, &mut out).unwrap();
+    let (mut file, mut out) = (vec![7; LONGEST_STATION], vec![7; LONGEST_LISTING]);
+    let size = write_station(&trial_tables(), plan, &mut file).unwrap();
+    let text = list_station(&file[..size], &mut out).unwrap();
     let text = std::str::from_utf8(text).unwrap();
     let first = text.lines().next().unwrap();
     let (_, counts) = first.split_once(" orders ").unwrap();

@@ -1,16 +1,17 @@
 //! Prints, as Markdown tables, what a step takes: in the proved library, in an unverified plain
 //! Rust version of the same algorithm, and in Maude; and what a character of a text, a message to
-//! a walk, a judgement of a plan, a count of paths and a question whether one action comes before
-//! another, which the plain version answers by another algorithm, take in the first two. Ends at
-//! the first call on which the proved library and the plain version differ.
+//! a walk, a judgement of a plan, a count of paths, a question whether one action comes before
+//! another, which the plain version answers by another algorithm, and a block of a station file
+//! take in the first two. Ends at the first call on which the proved library and the plain version
+//! differ.
 
 use benchmarks::contenders::{PLAIN, PROVED, REFERENCE};
 use benchmarks::maude;
 use benchmarks::measuring::{cell, least_times, mean};
 use benchmarks::workloads::{
     counts, growing_sums, judgements, merges_in_growing_areas, merges_of_longer_chains,
-    precedences, single_action, sizes, sum_tables, texts, walks, Places, Reading, Replay,
-    Unfolding, Workload, REPLAYED,
+    precedences, single_action, sizes, station_files, sum_tables, texts, walks, Places, Reading,
+    Replay, Unfolding, Workload, REPLAYED,
 };
 use reference::plans::LONGEST_PLAN;
 use reference::tables::{actions, trial_tables};
@@ -28,14 +29,15 @@ fn main() {
     );
     println!("plan of one action. Maude: its own report, for one of many reductions of the plan;");
     println!(
-        "rewrites are the equations that it used for one. The last six tables are of texts, for"
+        "rewrites are the equations that it used for one. The last eight tables are of texts, for"
     );
     println!(
-        "a call and for a character, and of messages to walks, judgements of plans, counts of"
+        "a call and for a character, of messages to walks, judgements of plans, counts of paths"
     );
     println!(
-        "paths and questions whether one action comes before another, for a call and for a word."
+        "and questions whether one action comes before another, for a call and for a word, and of"
     );
+    println!("station files written and read, for a call and for a block.");
     match PROVED {
         Some(_) => println!("\nIn each row the proved library and the plain version were first called once each, and\nagreed in every number answered and in every lent byte."),
         None => println!("\nThe proved library is left out: build with `--features archive` to link it."),
@@ -55,6 +57,8 @@ fn main() {
     judged_plans();
     counted_paths();
     preceding_actions();
+    written_files();
+    read_files();
 }
 
 /// What the proved library and the plain version take.
@@ -67,9 +71,14 @@ struct Times {
 impl Times {
     /// Compares both once, then measures both, in nanoseconds for a call.
     fn measure(name: &str, call: &mut impl Workload) -> Times {
+        Times::measure_answering(name, call, 0)
+    }
+
+    /// The same for a call that answers this number, which may be a refusal.
+    fn measure_answering(name: &str, call: &mut impl Workload, wanted: u8) -> Times {
         let outcome = call.outcome(PLAIN);
         let ((number, _, _), _) = outcome;
-        assert_eq!(number, 0, "{name}: the plain version comes to no end");
+        assert_eq!(number, wanted, "{name}: the plain version's number");
         if let Some(proved) = PROVED {
             let same = call.outcome(proved) == outcome;
             assert!(same, "{name}: proved library and plain version differ");
@@ -84,8 +93,8 @@ impl Times {
         }
     }
 
-    /// What the steps, the text, the walk or the plan's words alone take: the call less a call
-    /// without them, which take turns.
+    /// What the steps, the text, the walk, the plan's words or the blocks alone take: the call less
+    /// a call without them, which take turns.
     fn alone(call: &mut impl Workload, mut empty: impl Workload) -> Times {
         let contenders = [Some(PLAIN), PROVED];
         let [plain, proved, empty_plain, empty_proved] = least_times(|index| {
@@ -452,4 +461,95 @@ fn preceding_actions() {
     }
     let [call, alone] = ratios.map(|ratios| cell(mean(&ratios)));
     println!("| geometric mean | | | | | {call} | | | | | {alone} |");
+}
+
+/// A table of station files, written or read, with the ratios of its rows: of the calls and of the
+/// blocks alone.
+struct Files {
+    ratios: [Vec<f64>; 2],
+}
+
+impl Files {
+    fn begin() -> Files {
+        println!("| plan | words | blocks | call: proved | plain | proved/plain | judging: proved | plain | a block: proved | plain | blocks alone: proved | plain | proved/plain |");
+        println!("|---|--:|--:|--:|--:|--:|--:|--:|--:|--:|--:|--:|--:|");
+        Files {
+            ratios: Default::default(),
+        }
+    }
+
+    /// A row: what the call takes, the judging of tables and plan, and all blocks, so many.
+    fn row(&mut self, cells: &str, call: Times, judging: Times, alone: Times, blocks: usize) {
+        let (each, alone) = (call.each(blocks), alone.each(blocks));
+        println!(
+            "| {cells} | {} | {} | {} | {} | {} | {} |",
+            call.cells(),
+            cell(judging.proved),
+            cell(Some(judging.plain)),
+            cell(each.proved),
+            cell(Some(each.plain)),
+            alone.cells(),
+        );
+        for (ratios, times) in self.ratios.iter_mut().zip([call, alone]) {
+            ratios.extend(times.ratio());
+        }
+    }
+
+    fn end(self) {
+        let [call, alone] = self.ratios.map(|ratios| cell(mean(&ratios)));
+        println!("| geometric mean | | | | | {call} | | | | | | | {alone} |");
+    }
+}
+
+fn written_files() {
+    println!("\n### Station files: written\n");
+    println!(
+        "Nanoseconds for the call, and for a block of 512 bytes; the area is as long as the file."
+    );
+    println!(
+        "Judging: what the same call takes with an area of no bytes, which judges tables and plan by"
+    );
+    println!(
+        "the same code, and is then refused (74). Blocks alone: the call less that, for a block."
+    );
+    println!(
+        "Crusted coin: the bench's own file. Action: a plan of one action. Deep: ∂ of a chain of"
+    );
+    println!("actions.\n");
+    let mut table = Files::begin();
+    for (cells, mut writing) in station_files() {
+        let call = Times::measure(&cells, &mut writing);
+        let judging = Times::measure_answering(&cells, &mut writing.without_blocks(), 74);
+        let without_blocks = writing.without_blocks();
+        let alone = Times::alone(&mut writing, without_blocks);
+        table.row(&cells, call, judging, alone, writing.blocks());
+    }
+    table.end();
+}
+
+fn read_files() {
+    println!("\n### Station files: read\n");
+    println!(
+        "Nanoseconds for the call, and for a block of 512 bytes; the files are those above, and the"
+    );
+    println!(
+        "areas are as long as tables and plan. Blocks alone: what the same call takes with a plan"
+    );
+    println!(
+        "area of no bytes, which judges the blocks and gathers what they hold by the same code, and"
+    );
+    println!(
+        "is then refused (55); for a block. Judging: the call less that, with the copies of tables"
+    );
+    println!("and plan into the areas.\n");
+    let mut table = Files::begin();
+    for (cells, writing) in station_files() {
+        let mut reading = writing.read_back();
+        let call = Times::measure(&cells, &mut reading);
+        let alone = Times::measure_answering(&cells, &mut reading.blocks_alone(), 55);
+        let blocks_alone = reading.blocks_alone();
+        let judging = Times::alone(&mut reading, blocks_alone);
+        table.row(&cells, call, judging, alone, writing.blocks());
+    }
+    table.end();
 }

@@ -1,5 +1,5 @@
 //! Calls to measure: plans to unfold, rewritings to replay, texts to read, messages to walks, plans
-//! to judge, paths to count and actions to come before others.
+//! to judge, paths to count, actions to come before others, and station files to write and to read.
 
 use crate::contenders::{Ask, Contender, Ended, PLAIN};
 use reference::plans::{
@@ -8,7 +8,7 @@ use reference::plans::{
 use reference::random::plans::{plan, small_plan};
 use reference::random::Random;
 use reference::runs::reached;
-use reference::stations::read_station;
+use reference::stations::{read_station, station_file, BLOCK, CONTENT};
 use reference::tables::{
     actions, entry, trial_tables, COMMUNICATION, DEAD_STOP, PRIORITY, SETS, TABLES_LENGTH,
 };
@@ -569,11 +569,17 @@ const WALKED: [usize; 3] = [1023, 4095, LONGEST_PLAN - 1];
 const BENCH: &[u8] = include_bytes!("../../../examples/bench/crusted-coin.station");
 const SETTLES: u8 = 13;
 
-/// The tables of the bench, and the basic plan that its plan unfolds to.
-fn bench() -> (Vec<u8>, Vec<u8>) {
+/// The tables of the bench, and its plan.
+fn bench_file() -> (Vec<u8>, Vec<u8>) {
     let (mut tables, mut plan) = (vec![0; TABLES_LENGTH], vec![0; LONGEST_PLAN]);
     let size = read_station(BENCH, &mut tables, &mut plan).expect("the file is accepted");
     plan.truncate(size);
+    (tables, plan)
+}
+
+/// The tables of the bench, and the basic plan that its plan unfolds to.
+fn bench() -> (Vec<u8>, Vec<u8>) {
+    let (tables, plan) = bench_file();
     let unfolding = Unfolding::within(tables, plan, LONGEST_PLAN).expect("the bench unfolds");
     (unfolding.tables, unfolding.reached)
 }
@@ -691,12 +697,14 @@ fn random_plan(n: u8) -> Vec<u8> {
     plan
 }
 
+/// A plan under a sign of one operand.
+fn under(mut plan: Vec<u8>, sign: u8) -> Vec<u8> {
+    plan.push(sign);
+    plan
+}
+
 /// The plans judged, each with its name. All are as long as a plan can be.
 pub fn judgements() -> Vec<(&'static str, Asking)> {
-    let under = |mut plan: Vec<u8>, sign: u8| {
-        plan.push(sign);
-        plan
-    };
     let sets = (ENCAPSULATION..=LAST_ENCAPSULATION).cycle();
     let plans = [
         ("sum", under(long_sum(LONGEST_PLAN - 1), THETA)),
@@ -850,6 +858,118 @@ pub fn precedences() -> Vec<(String, Preceding)> {
     asked
 }
 
+/// Tables and a plan to write as a station file, and what is lent: an area as long as the file.
+pub struct Writing {
+    tables: Vec<u8>,
+    plan: Vec<u8>,
+    area: Vec<u8>,
+}
+
+impl Writing {
+    /// The file of these tables and this plan.
+    fn new(tables: Vec<u8>, plan: Vec<u8>) -> Writing {
+        let area = station_file(&tables, &plan);
+        Writing { tables, plan, area }
+    }
+
+    /// How many blocks the file has.
+    pub fn blocks(&self) -> usize {
+        self.area.len() / BLOCK
+    }
+
+    /// The same call with an area of no bytes: it judges tables and plan, by the same code, and then
+    /// makes no block.
+    pub fn without_blocks(&self) -> Writing {
+        Writing {
+            tables: self.tables.clone(),
+            plan: self.plan.clone(),
+            area: Vec::new(),
+        }
+    }
+
+    /// Reads the same file.
+    pub fn read_back(&self) -> ReadingBack {
+        ReadingBack {
+            file: station_file(&self.tables, &self.plan),
+            tables: vec![0; self.tables.len()],
+            plan: vec![0; self.plan.len()],
+        }
+    }
+}
+
+impl Workload for Writing {
+    fn run(&mut self, contender: Contender) -> Ended {
+        (contender.write_station)(&self.tables, &self.plan, &mut self.area)
+    }
+
+    fn lent(&mut self) -> Vec<&mut [u8]> {
+        vec![&mut self.area]
+    }
+}
+
+/// A station file to read, and what is lent: areas as long as what is read.
+pub struct ReadingBack {
+    file: Vec<u8>,
+    tables: Vec<u8>,
+    plan: Vec<u8>,
+}
+
+impl ReadingBack {
+    /// The same call with a plan area of no bytes: it judges the blocks and gathers what they hold,
+    /// by the same code, and then judges neither tables nor plan.
+    pub fn blocks_alone(&self) -> ReadingBack {
+        ReadingBack {
+            file: self.file.clone(),
+            tables: self.tables.clone(),
+            plan: Vec::new(),
+        }
+    }
+}
+
+impl Workload for ReadingBack {
+    fn run(&mut self, contender: Contender) -> Ended {
+        (contender.read_station)(&self.file, &mut self.tables, &mut self.plan)
+    }
+
+    fn lent(&mut self) -> Vec<&mut [u8]> {
+        vec![&mut self.tables, &mut self.plan]
+    }
+}
+
+/// The words of the plans that are written, beside that of the bench: of one action, then of plans
+/// that fill 1, 2, 4 and so on up to 32 blocks, and of the longest, which has 256 words in a 33rd.
+const WRITTEN: [usize; 8] = [
+    1,
+    CONTENT,
+    2 * CONTENT,
+    4 * CONTENT,
+    8 * CONTENT,
+    16 * CONTENT,
+    32 * CONTENT,
+    LONGEST_PLAN,
+];
+
+/// The files measured, each with the cells that name it: plan, words and blocks. But for the bench's
+/// the plans have their actions first and then their signs: what judging takes, most of the call,
+/// then differs little from call to call, so that it can be taken off.
+pub fn station_files() -> Vec<(String, Writing)> {
+    let (tables, plan) = bench_file();
+    let mut plans = vec![("crusted coin", tables, plan)];
+    plans.extend(WRITTEN.map(|words| match words {
+        1 => ("action", trial_tables(), vec![1]),
+        _ => {
+            let plan = under(deep_plan(words - 1), ENCAPSULATION);
+            ("deep", trial_tables(), plan)
+        }
+    }));
+    let with_cells = |(name, tables, plan): (&str, Vec<u8>, Vec<u8>)| {
+        let words = plan.len();
+        let writing = Writing::new(tables, plan);
+        (format!("{name} | {words} | {}", writing.blocks()), writing)
+    };
+    plans.into_iter().map(with_cells).collect()
+}
+
 #[cfg(test)]
 mod tests {
     use super::*;
@@ -995,6 +1115,39 @@ mod tests {
             };
             assert_eq!(asking.run(PLAIN), wanted, "{name}");
             assert_eq!(asking.of_one_action().run(PLAIN).0, 0, "{name}");
+        }
+    }
+
+    #[test]
+    fn files_are_written_and_read_back_at_these_lengths() {
+        let wanted = [
+            ("crusted coin | 22 | 6", 22, 6),
+            ("action | 1 | 6", 1, 6),
+            ("deep | 504 | 6", 504, 6),
+            ("deep | 1008 | 7", 1008, 7),
+            ("deep | 2016 | 9", 2016, 9),
+            ("deep | 4032 | 13", 4032, 13),
+            ("deep | 8064 | 21", 8064, 21),
+            ("deep | 16128 | 37", 16_128, 37),
+            ("deep | 16384 | 38", 16_384, 38),
+        ];
+        let files = station_files();
+        assert_eq!(files.len(), wanted.len());
+        for ((cells, mut writing), (name, words, blocks)) in files.into_iter().zip(wanted) {
+            assert_eq!(cells, name);
+            assert_eq!(writing.blocks(), blocks, "{name}");
+            let (ended, areas) = writing.outcome(PLAIN);
+            assert_eq!(ended, (0, 0, 512 * blocks), "{name}");
+            assert_eq!(writing.without_blocks().run(PLAIN), (74, 0, 0), "{name}");
+            let mut reading = writing.read_back();
+            assert!(areas == [&reading.file[..]], "{name}");
+            let (ended, areas) = reading.outcome(PLAIN);
+            assert_eq!(ended, (0, 0, words), "{name}");
+            assert!(areas == [&writing.tables[..], &writing.plan], "{name}");
+            assert_eq!(reading.blocks_alone().run(PLAIN), (55, 0, 0), "{name}");
+            if name.starts_with("crusted coin") {
+                assert!(reading.file == BENCH);
+            }
         }
     }
 }

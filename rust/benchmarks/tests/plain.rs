@@ -4,13 +4,18 @@
 use benchmarks::contenders::{Contender, PLAIN, REFERENCE};
 use benchmarks::plain;
 use benchmarks::workloads::{
-    counts, precedences, stopped_merges, texts, walks, Unfolding, Workload, MERGES, STOPPED_CHAINS,
+    counts, precedences, station_files, stopped_merges, texts, walks, Unfolding, Workload, MERGES,
+    STOPPED_CHAINS,
 };
 use differential::{compare, Answer, Call, Implementation, Reference};
 use reference::plans::LONGEST_PLAN;
+use reference::random::stations::{station_case, write_case, StationRead, StationWritten};
+use reference::random::Random;
+use reference::Refusal;
+use std::collections::BTreeSet;
 
-/// The plain version's unfolding, checker, reader of texts, walks, counts and precedence; the other
-/// calls are the reference's.
+/// The plain version's unfolding, checker, reader of texts, walks, counts, precedence, and writer and
+/// reader of station files; the other calls are the reference's.
 struct Plain;
 
 impl Implementation for Plain {
@@ -39,6 +44,12 @@ impl Implementation for Plain {
             Call::CountOrders(tables, plan) => Answer::paths(plain::count_orders(tables, plan)),
             Call::Precedes(tables, plan, first, second) => {
                 Answer::precedence(plain::precedes(tables, plan, first, second))
+            }
+            Call::WriteStation(tables, plan, area) => {
+                Answer::counted(plain::write_station(tables, plan, area))
+            }
+            Call::ReadStation(file, tables_area, plan_area) => {
+                Answer::counted(plain::read_station(file, tables_area, plan_area))
             }
             other => Reference.answer(other),
         }
@@ -106,6 +117,68 @@ fn precedences_agree_with_the_reference() {
     }
 }
 
+/// The station files of the benchmark, written and read; and the same calls, refused for their areas.
+#[test]
+fn station_files_agree_with_the_reference() {
+    station_files_agree(REFERENCE);
+}
+
+fn station_files_agree(contender: Contender) {
+    fn agrees(name: &str, mut call: impl Workload, contender: Contender) {
+        let same = call.outcome(PLAIN) == call.outcome(contender);
+        assert!(same, "{name}");
+    }
+    for (name, writing) in station_files() {
+        let reading = writing.read_back();
+        agrees(&name, writing.without_blocks(), contender);
+        agrees(&name, reading.blocks_alone(), contender);
+        agrees(&name, writing, contender);
+        agrees(&name, reading, contender);
+    }
+}
+
+/// The number of an answer.
+fn number(answer: Result<usize, Refusal>) -> u8 {
+    answer.map_or_else(|refusal| refusal.number, |_| 0)
+}
+
+/// Random files to write; every refusal is met.
+#[test]
+fn random_files_are_written_as_by_the_reference() {
+    let (random, mut numbers) = (&mut Random::new(1), BTreeSet::new());
+    for _ in 0..6000 {
+        let case = write_case(random);
+        let mut area = case.area.clone();
+        let answer = plain::write_station(&case.tables, &case.plan, &mut area);
+        numbers.insert(number(answer));
+        let same = StationWritten { answer, area } == case.run();
+        assert!(same, "{:?} {:?}", case.tables, case.plan);
+    }
+    let wanted = (0..=8).chain(11..=14).chain([74]);
+    assert_eq!(numbers, wanted.collect());
+}
+
+/// Random files to read, right and damaged; every refusal is met. The tables of a file are never too
+/// long or too short, which is refusal 1.
+#[test]
+fn random_files_are_read_as_by_the_reference() {
+    let (random, mut numbers) = (&mut Random::new(1), BTreeSet::new());
+    for _ in 0..6000 {
+        let case = station_case(random);
+        let (mut tables, mut plan) = (case.tables.clone(), case.plan.clone());
+        let answer = plain::read_station(&case.file, &mut tables, &mut plan);
+        numbers.insert(number(answer));
+        let read = StationRead {
+            answer,
+            tables,
+            plan,
+        };
+        assert!(read == case.run(), "{:?}", case.file);
+    }
+    let wanted = [0].into_iter().chain(2..=8).chain(11..=14).chain(51..=55);
+    assert_eq!(numbers, wanted.collect());
+}
+
 /// The judgements of the benchmark.
 #[cfg(feature = "archive")]
 #[test]
@@ -136,6 +209,13 @@ fn precedences_agree_with_the_proved_library() {
     for (name, mut asking) in precedences() {
         assert_eq!(asking.run(PLAIN), asking.run(proved), "{name}");
     }
+}
+
+/// The station files of the benchmark, written and read; and the same calls, refused for their areas.
+#[cfg(feature = "archive")]
+#[test]
+fn station_files_agree_with_the_proved_library() {
+    station_files_agree(benchmarks::contenders::PROVED.expect("the archive is linked"));
 }
 
 /// The messages of the benchmark.

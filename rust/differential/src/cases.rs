@@ -2,25 +2,26 @@
 
 use crate::answers::Answer;
 use crate::implementation::{Call, Implementation};
+use crate::round_trips::{RereadCase, RewriteCase};
 use crate::walking::Walking;
 use reference::plans::{judge_plan, operands, LONGEST_PLAN};
 use reference::random::cases::{
-    check_case, own_rewriting_case, station_case, station_file, tables_and_plan, unfold_case_of,
-    CheckCase, StationCase, UnfoldCase,
+    check_case, own_rewriting_case, tables_and_plan, unfold_case_of, CheckCase, UnfoldCase,
 };
 use reference::random::plans::{basic_plan, plan, repeating_basic_plan};
 use reference::random::precedence::{precedence_case, PrecedenceCase};
 use reference::random::rewritings::{damage_rewriting, derivation};
+use reference::random::stations::{any_file, station_case, write_case, StationCase, WriteCase};
 use reference::random::tables::{damaged_tables, lawful_tables};
 use reference::random::texts::{long_text, text_case, text_case_of, TextCase};
 use reference::random::walks::{
     self, fresh_walk_case, messages_case, walk_case, FreshWalkCase, MessagesCase, WalkCase,
 };
 use reference::random::Random;
-use reference::stations::{program, write_station};
+use reference::stations::{program, station_file};
 use reference::tables::trial_tables;
 
-/// One call, with everything handed to it; or the calls of one walk.
+/// One call, with everything handed to it; or the calls of one walk, or of one round trip.
 #[derive(Clone, Debug)]
 pub enum Case {
     /// Tables to judge.
@@ -37,6 +38,12 @@ pub enum Case {
     CheckRewriting(CheckCase),
     /// A station file to read.
     ReadStation(StationCase),
+    /// A station file to write.
+    WriteStation(WriteCase),
+    /// A station file to write, and what was written to read.
+    Reread(RereadCase),
+    /// A station file to read, and what was read to write.
+    Rewrite(RewriteCase),
     /// An unfolding whose own rewriting is checked.
     UnfoldChecked(CheckedCase),
     /// A plan reached to copy.
@@ -130,7 +137,7 @@ impl Case {
     /// The case of this seed.
     pub fn draw(seed: u64) -> Case {
         let random = &mut Random::new(seed);
-        match random.below(30) {
+        match random.below(33) {
             0 => Case::JudgeTables(any_tables(random)),
             1 | 2 => {
                 let (tables, plan) = handed_in(random);
@@ -161,21 +168,25 @@ impl Case {
             23 => Case::FreshWalk(fresh_walk_case(random)),
             24 | 25 => Case::Walk(walk_case(random)),
             26 | 27 => Case::Messages(messages_case(random)),
-            _ => Case::Precedes(precedence_case(random)),
+            28 | 29 => Case::Precedes(precedence_case(random)),
+            30 | 31 => Case::WriteStation(write_case(random)),
+            _ => round_trip(random),
         }
     }
 
-    /// Makes the call, or the calls of a walk, leaving the case as it is.
+    /// Makes the call, or the calls of a walk or of a round trip, leaving the case as it is.
     pub fn run(&self, implementation: &impl Implementation) -> Outcome {
         match self {
             Case::FreshWalk(case) => Walking::before(case).begin(implementation),
             Case::Walk(case) => Walking::on_the_way(case).bring(implementation, case.message),
             Case::Messages(case) => Walking::before(&case.fresh).follow(implementation, case),
+            Case::Reread(case) => case.run(implementation),
+            Case::Rewrite(case) => case.run(implementation),
             _ => self.make_call(implementation),
         }
     }
 
-    /// Makes the one call of a case that is no walk.
+    /// Makes the one call of a case that is no walk and no round trip.
     fn make_call(&self, implementation: &impl Implementation) -> Outcome {
         let mut lent: Vec<Vec<u8>> = self.lent().into_iter().cloned().collect();
         let call = match (self, &mut lent[..]) {
@@ -196,6 +207,9 @@ impl Case {
             ),
             (Case::ReadStation(case), [tables, plan]) => {
                 Call::ReadStation(&case.file, tables, plan)
+            }
+            (Case::WriteStation(case), [area]) => {
+                Call::WriteStation(&case.tables, &case.plan, area)
             }
             (Case::UnfoldChecked(case), [list, a, b, c, d]) => Call::UnfoldChecked(
                 &case.unfolding.tables,
@@ -225,6 +239,7 @@ impl Case {
             Case::Unfold(case) => vec![&case.list, &case.a, &case.b],
             Case::CheckRewriting(case) => vec![&case.a, &case.b],
             Case::ReadStation(case) => vec![&case.tables, &case.plan],
+            Case::WriteStation(case) => vec![&case.area],
             Case::UnfoldChecked(case) => {
                 let unfolding = &case.unfolding;
                 vec![
@@ -323,6 +338,23 @@ fn any_station(random: &mut Random) -> StationCase {
     station_case(random)
 }
 
+/// A station file written and read, or read and written; where the first of the two is refused,
+/// that one alone.
+fn round_trip(random: &mut Random) -> Case {
+    if random.once_in(2) {
+        let writing = write_case(random);
+        return match RereadCase::of(random, &writing) {
+            Some(case) => Case::Reread(case),
+            None => Case::WriteStation(writing),
+        };
+    }
+    let reading = any_station(random);
+    match RewriteCase::of(random, &reading) {
+        Some(case) => Case::Rewrite(case),
+        None => Case::ReadStation(reading),
+    }
+}
+
 /// An unfolding, and areas for the check that are mostly as long as its own.
 fn any_checked(random: &mut Random) -> CheckedCase {
     let unfolding = any_unfolding(random);
@@ -379,7 +411,7 @@ fn any_listing(random: &mut Random) -> ListCase {
 fn listed_file(random: &mut Random, most: usize) -> Vec<u8> {
     loop {
         pass_by_plans_above(random, most);
-        let (file, words) = station_file(random);
+        let (file, words) = any_file(random);
         if words <= most || words > LONGEST_LISTED {
             return file;
         }
@@ -394,7 +426,7 @@ fn long_unfolding(random: &mut Random) -> Vec<u8> {
     let mut plan: Vec<u8> = (0..leaves).map(|_| random.pick(&[1, 2, 3, 4])).collect();
     plan.extend(vec![64; leaves - 1]);
     plan.extend([81, 82, 83, 84, 85, 86, 87, 81]);
-    write_station(&trial_tables(), &plan)
+    station_file(&trial_tables(), &plan)
 }
 
 /// The station file of a merge of so many actions that the plans on the way may be longer than
@@ -403,7 +435,7 @@ fn wide_unfolding(random: &mut Random) -> Vec<u8> {
     let actions = random.between(5, 9);
     let mut plan: Vec<u8> = (0..actions).map(|_| random.pick(&[1, 2, 3, 4])).collect();
     plan.extend(vec![66; actions - 1]);
-    write_station(&trial_tables(), &plan)
+    station_file(&trial_tables(), &plan)
 }
 
 /// A text of any kind, or one whose plan is about as long as a plan may be, at times with a

@@ -51,6 +51,8 @@ pub enum Call<'c> {
     ),
     /// Reads a station file: file, tables area, plan area; answers the plan's size.
     ReadStation(&'c [u8], &'c mut [u8], &'c mut [u8]),
+    /// Writes a station file: tables, plan, file area; answers the file's size.
+    WriteStation(&'c [u8], &'c [u8], &'c mut [u8]),
     /// Lists a station file in an area; answers the listing's size.
     ListStation(&'c [u8], &'c mut [u8]),
     /// Reads a plan typed in signs: tables, text, plan area; answers the plan's size.
@@ -107,6 +109,9 @@ impl Implementation for Reference {
             Call::ReadStation(file, tables_area, plan_area) => {
                 Answer::counted(stations::read_station(file, tables_area, plan_area))
             }
+            Call::WriteStation(tables, plan, file_area) => {
+                Answer::counted(stations::write_station(tables, plan, file_area))
+            }
             Call::ListStation(file, out) => Answer::handed(stations::list_station(file, out)),
             Call::ReadText(tables, text, plan_area) => {
                 Answer::counted(texts::read_text(tables, text, plan_area))
@@ -154,6 +159,9 @@ impl Implementation for Proved {
             }
             Call::ReadStation(file, tables_area, plan_area) => {
                 raw::read_station(file, tables_area, plan_area).into()
+            }
+            Call::WriteStation(tables, plan, file_area) => {
+                raw::write_station(tables, plan, file_area).into()
             }
             Call::ListStation(file, out) => raw::list_station(file, out).into(),
             Call::ReadText(tables, text, plan_area) => {

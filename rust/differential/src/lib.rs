@@ -12,6 +12,7 @@ mod cases;
 mod compare;
 mod implementation;
 mod printing;
+mod round_trips;
 mod shrink;
 mod walking;
 
@@ -21,3 +22,4 @@ pub use compare::{compare, Agreement, Difference};
 #[cfg(feature = "archive")]
 pub use implementation::Proved;
 pub use implementation::{Call, Implementation, Reference};
+pub use round_trips::{RereadCase, RewriteCase};

@@ -3,11 +3,16 @@
 use crate::cases::{Case, Outcome};
 use crate::compare::{Agreement, Difference};
 use reference::random::cases::UnfoldCase;
+use reference::random::stations::{StationCase, WriteCase};
 use reference::random::walks::FreshWalkCase;
 use std::fmt;
 
-/// Bytes: as they are, or in short where there are many and all are the same.
+/// Bytes: as they are, or in short where there are many and all are the same, or very many and most
+/// are zero.
 struct Bytes<'t>(&'t [u8]);
+
+/// From so many on, bytes are very many: tables, or a station file.
+const VERY_MANY: usize = 512;
 
 impl fmt::Display for Bytes<'_> {
     fn fmt(&self, f: &mut fmt::Formatter<'_>) -> fmt::Result {
@@ -16,9 +21,14 @@ impl fmt::Display for Bytes<'_> {
             Some(first) if bytes.len() > 4 && bytes.iter().all(|byte| byte == first) => {
                 write!(f, "[{first}; {}]", bytes.len())
             }
+            Some(_) if bytes.len() >= VERY_MANY && mostly_zero(bytes) => Sparse(bytes).fmt(f),
             _ => write!(f, "{bytes:?}"),
         }
     }
+}
+
+fn mostly_zero(bytes: &[u8]) -> bool {
+    bytes.iter().filter(|&&byte| byte == 0).count() > bytes.len() / 2
 }
 
 /// Bytes most of which are zero: the length, and what is not.
@@ -52,11 +62,15 @@ impl fmt::Display for Case {
                 writeln!(f, "  a: {}", Bytes(&case.a))?;
                 writeln!(f, "  b: {}", Bytes(&case.b))
             }
-            Case::ReadStation(case) => {
-                writeln!(f, "read_station")?;
-                writeln!(f, "  file: {}", Sparse(&case.file))?;
-                writeln!(f, "  tables area: {}", Bytes(&case.tables))?;
-                writeln!(f, "  plan area: {}", Bytes(&case.plan))
+            Case::ReadStation(case) => reading(f, "read_station", case),
+            Case::WriteStation(case) => writing(f, "write_station", case),
+            Case::Reread(case) => {
+                writing(f, "write_station, then read_station", &case.writing)?;
+                read_areas(f, &case.tables, &case.plan)
+            }
+            Case::Rewrite(case) => {
+                reading(f, "read_station, then write_station", &case.reading)?;
+                writeln!(f, "  file area: {}", Bytes(&case.area))
             }
             Case::UnfoldChecked(case) => {
                 unfolding(f, "unfold_checked", &case.unfolding)?;
@@ -105,6 +119,22 @@ fn unfolding(f: &mut fmt::Formatter<'_>, call: &str, case: &UnfoldCase) -> fmt::
     writeln!(f, "  list: {}", Bytes(&case.list))?;
     writeln!(f, "  a: {}", Bytes(&case.a))?;
     writeln!(f, "  b: {}", Bytes(&case.b))
+}
+
+fn reading(f: &mut fmt::Formatter<'_>, calls: &str, case: &StationCase) -> fmt::Result {
+    writeln!(f, "{calls}")?;
+    writeln!(f, "  file: {}", Sparse(&case.file))?;
+    read_areas(f, &case.tables, &case.plan)
+}
+
+fn read_areas(f: &mut fmt::Formatter<'_>, tables: &[u8], plan: &[u8]) -> fmt::Result {
+    writeln!(f, "  tables area: {}", Bytes(tables))?;
+    writeln!(f, "  plan area: {}", Bytes(plan))
+}
+
+fn writing(f: &mut fmt::Formatter<'_>, calls: &str, case: &WriteCase) -> fmt::Result {
+    judged(f, calls, &case.tables, &case.plan)?;
+    writeln!(f, "  file area: {}", Bytes(&case.area))
 }
 
 fn fresh_walk(f: &mut fmt::Formatter<'_>, calls: &str, case: &FreshWalkCase) -> fmt::Result {

@@ -1,12 +1,14 @@
 //! Making a case smaller while it keeps what makes it interesting.
 
 use crate::cases::{Case, CheckedCase, ListCase, ReachedCase};
+use crate::round_trips::{RereadCase, RewriteCase};
 use reference::plans::{judge, operands, subplan, LONGEST_PLAN};
-use reference::random::cases::{CheckCase, StationCase, UnfoldCase};
+use reference::random::cases::{CheckCase, UnfoldCase};
 use reference::random::precedence::PrecedenceCase;
+use reference::random::stations::{file_length, StationCase, WriteCase};
 use reference::random::texts::TextCase;
 use reference::random::walks::{FreshWalkCase, MessagesCase, WalkCase};
-use reference::stations::{read_station, write_station};
+use reference::stations::{read_station, station_file};
 use reference::tables::{trial_tables, TABLES_LENGTH};
 use reference::texts::{read_text, typed};
 use reference::unfolding::RECORD;
@@ -46,7 +48,10 @@ fn smaller(case: &Case) -> Vec<Case> {
         Case::CountOrders(tables, plan) => smaller_judged(tables, plan, Case::CountOrders),
         Case::Unfold(case) => each(smaller_unfoldings(case), Case::Unfold),
         Case::CheckRewriting(case) => smaller_checks(case),
-        Case::ReadStation(case) => smaller_stations(case),
+        Case::ReadStation(case) => each(smaller_stations(case), Case::ReadStation),
+        Case::WriteStation(case) => each(smaller_writings(case), Case::WriteStation),
+        Case::Reread(case) => smaller_rereads(case),
+        Case::Rewrite(case) => smaller_rewrites(case),
         Case::UnfoldChecked(case) => smaller_checked(case),
         Case::Reached(case) => smaller_reached(case),
         Case::ListStation(case) => smaller_listings(case),
@@ -76,7 +81,10 @@ fn weight(case: &Case) -> u64 {
             let handed_in = bytes(&[&case.tables, &case.start, &case.claimed, &case.rewriting]);
             handed_in + unlike(&[&case.a, &case.b])
         }
-        Case::ReadStation(case) => bytes(&[&case.file]) + unlike(&[&case.tables, &case.plan]),
+        Case::ReadStation(case) => reading_weight(case),
+        Case::WriteStation(case) => writing_weight(case),
+        Case::Reread(case) => writing_weight(&case.writing) + unlike(&[&case.tables, &case.plan]),
+        Case::Rewrite(case) => reading_weight(&case.reading) + unlike(&[&case.area]),
         Case::UnfoldChecked(case) => {
             unfolding_weight(&case.unfolding) + unlike(&[&case.c, &case.d])
         }
@@ -97,6 +105,16 @@ fn weight(case: &Case) -> u64 {
             bytes(&[&case.tables, &case.plan]) + u64::from(case.first) + u64::from(case.second)
         }
     }
+}
+
+fn reading_weight(case: &StationCase) -> u64 {
+    let bytes = 4 * case.file.len() + set(&case.file);
+    bytes as u64 + unlike(&[&case.tables, &case.plan])
+}
+
+fn writing_weight(case: &WriteCase) -> u64 {
+    let bytes = [&case.tables, &case.plan].map(|slice| 4 * slice.len() + set(slice));
+    bytes.iter().sum::<usize>() as u64 + unlike(&[&case.area])
 }
 
 fn fresh_walk_weight(case: &FreshWalkCase) -> u64 {
@@ -295,14 +313,57 @@ fn smaller_checks(case: &CheckCase) -> Vec<Case> {
     each(changed.found, Case::CheckRewriting)
 }
 
-fn smaller_stations(case: &StationCase) -> Vec<Case> {
-    let changed = Changed::of(case)
+fn smaller_stations(case: &StationCase) -> Vec<StationCase> {
+    Changed::of(case)
         .with(smaller_lent(&case.tables), |case, tables| {
             case.tables = tables
         })
         .with(smaller_lent(&case.plan), |case, plan| case.plan = plan)
-        .with(smaller_files(&case.file), |case, file| case.file = file);
-    each(changed.found, Case::ReadStation)
+        .with(smaller_files(&case.file), |case, file| case.file = file)
+        .found
+}
+
+fn smaller_writings(case: &WriteCase) -> Vec<WriteCase> {
+    let (plans, length) = (smaller_plans(&case.plan), file_length(case.plan.len()));
+    Changed::of(case)
+        .with(plans.clone(), |case, plan| {
+            shorten(&mut case.area, length, file_length(plan.len()));
+            case.plan = plan;
+        })
+        .with(plans, |case, plan| case.plan = plan)
+        .with(smaller_file_areas(&case.area, length), |case, area| {
+            case.area = area
+        })
+        .with(smaller_tables(&case.tables), |case, tables| {
+            case.tables = tables
+        })
+        .found
+}
+
+fn smaller_rereads(case: &RereadCase) -> Vec<Case> {
+    let changed = Changed::of(case)
+        .with(smaller_writings(&case.writing), |case, writing| {
+            case.writing = writing
+        })
+        .with(smaller_lent(&case.tables), |case, tables| {
+            case.tables = tables
+        })
+        .with(smaller_lent(&case.plan), |case, plan| case.plan = plan);
+    each(changed.found, Case::Reread)
+}
+
+fn smaller_rewrites(case: &RewriteCase) -> Vec<Case> {
+    let (readings, length) = (smaller_stations(&case.reading), case.reading.file.len());
+    let changed = Changed::of(case)
+        .with(readings.clone(), |case, reading| {
+            shorten(&mut case.area, length, reading.file.len());
+            case.reading = reading;
+        })
+        .with(readings, |case, reading| case.reading = reading)
+        .with(smaller_file_areas(&case.area, length), |case, area| {
+            case.area = area
+        });
+    each(changed.found, Case::Rewrite)
 }
 
 /// Nothing, a half, a record's bytes less, one less.
@@ -345,6 +406,22 @@ fn smaller_lent(lent: &[u8]) -> Vec<Vec<u8>> {
         .map(|length| lent[..length].to_vec())
         .collect();
     found.push(vec![LENT; lent.len()]);
+    found
+}
+
+/// Takes from an area what a file gets shorter, so that it stays as much too long or too short.
+fn shorten(area: &mut Vec<u8>, before: usize, after: usize) {
+    let less = before.saturating_sub(after);
+    area.truncate(area.len().saturating_sub(less));
+}
+
+/// An area as long as a file of this length, one byte longer and one shorter; and those of other
+/// lent slices.
+fn smaller_file_areas(area: &[u8], file: usize) -> Vec<Vec<u8>> {
+    let near = [file, file + 1, file.saturating_sub(1)].into_iter();
+    let shorter = near.filter(|&length| length < area.len());
+    let mut found: Vec<Vec<u8>> = shorter.map(|length| area[..length].to_vec()).collect();
+    found.extend(smaller_lent(area));
     found
 }
 
@@ -587,12 +664,12 @@ fn smaller_files(file: &[u8]) -> Vec<Vec<u8>> {
         found.extend(
             smaller_plans(plan)
                 .iter()
-                .map(|plan| write_station(&tables, plan)),
+                .map(|plan| station_file(&tables, plan)),
         );
         found.extend(
             smaller_tables(&tables)
                 .iter()
-                .map(|tables| write_station(tables, plan)),
+                .map(|tables| station_file(tables, plan)),
         );
     }
     found

@@ -4,8 +4,10 @@ use differential::{compare, Answer, Call, Case, Implementation, Outcome, Referen
 use reference::plans::{counts, is_basic, starts, subplan};
 use reference::precedence::Precedence;
 use reference::random::precedence::PrecedenceCase;
+use reference::random::stations::WriteCase;
 use reference::random::Random;
 use reference::reading::paths_of;
+use reference::stations::{put_sum, put_word, station_file};
 use std::collections::{BTreeMap, BTreeSet};
 
 /// What is changed in a copy.
@@ -171,11 +173,49 @@ enum Damage {
     BeforeAbove,
     /// The action n is outside 1 to n.
     BeforeLast,
+    /// The blocks are numbered from 1.
+    WriteNumbers,
+    /// Blocks of the plan have kind 1.
+    WriteKind,
+    /// Block 4 is said to be full.
+    WriteCount,
+    /// A block's number, kind, count and sum are written high byte first.
+    WriteHigh,
+    /// The last of a block's 255 words is not summed.
+    WriteSum,
+    /// A sum above 65,535 is written as 65,535.
+    WriteWrap,
+    /// The last block is not cleared behind its words.
+    WriteFilling,
+    /// The area is not cleared behind the file.
+    WriteBehind,
+    /// A last block that is full is followed by an empty one, where there is room.
+    WriteEmpty,
+    /// A file has 37 blocks at most instead of 38.
+    WriteLongest,
+    /// A plan of 16,385 words is written.
+    WriteLong,
+    /// The size that is told leaves out the last block.
+    WriteSize,
+    /// An area of exactly the file's length is too short for it.
+    WriteRoom,
+    /// An area one byte too short takes the file without its last byte.
+    WriteShort,
+    /// The area is cleared where it is too short.
+    WriteKeeping,
+    /// An area that is too short counts before a plan that is left over.
+    WritePlan,
+    /// An empty area counts before the tables.
+    WriteTables,
+    /// The size is not set where the call is refused.
+    WriteRefused,
+    /// Where the area is too short, its length is the place.
+    WritePlace,
 }
 
 use Damage::*;
 
-const ALL: [Damage; 79] = [
+const ALL: [Damage; 98] = [
     MostActions,
     TripleWeight,
     LongestPlan,
@@ -255,6 +295,25 @@ const ALL: [Damage; 79] = [
     BeforeDeadStop,
     BeforeAbove,
     BeforeLast,
+    WriteNumbers,
+    WriteKind,
+    WriteCount,
+    WriteHigh,
+    WriteSum,
+    WriteWrap,
+    WriteFilling,
+    WriteBehind,
+    WriteEmpty,
+    WriteLongest,
+    WriteLong,
+    WriteSize,
+    WriteRoom,
+    WriteShort,
+    WriteKeeping,
+    WritePlan,
+    WriteTables,
+    WriteRefused,
+    WritePlace,
 ];
 
 /// The reference with damage.
@@ -430,6 +489,81 @@ impl Damaged {
             _ => {}
         }
         answer
+    }
+
+    fn write_station(&self, tables: &[u8], plan: &[u8], file_area: &mut [u8]) -> Answer {
+        let before = file_area.to_vec();
+        let mut answer = Reference.answer(Call::WriteStation(tables, plan, file_area));
+        let (size, length) = (answer.values[0], file_length(plan));
+        let (file, behind) = file_area.split_at_mut(size);
+        match (self.0, answer.number) {
+            (WriteFilling, 0) => {
+                let filling = size - 506 + (plan.len() - 1) % 504 + 1..size - 2;
+                file[filling.clone()].copy_from_slice(&before[filling]);
+            }
+            (WriteBehind, 0) => behind.copy_from_slice(&before[size..]),
+            (WriteEmpty, 0) if plan.len().is_multiple_of(504) && behind.len() >= 512 => {
+                put_word(behind, 0, size / 512);
+                put_word(behind, 2, 2);
+                put_sum(&mut behind[..512]);
+                answer.values[0] += 512;
+            }
+            (WriteLongest, 0) if size == 38 * 512 => {
+                file_area.copy_from_slice(&before);
+                return refusal(74);
+            }
+            (WriteRoom, 0) if size == before.len() => {
+                file_area.copy_from_slice(&before);
+                return refusal(74);
+            }
+            (WriteLong, 11) if plan.len() == 16_385 && before.len() >= length => {
+                file_area[..length].copy_from_slice(&station_file(tables, plan));
+                file_area[length..].fill(0);
+                return Answer::ended(0, [length, 0]);
+            }
+            (WriteShort, 74) if before.len() + 1 == length => {
+                file_area.copy_from_slice(&station_file(tables, plan)[..length - 1]);
+                return Answer::ended(0, [length, 0]);
+            }
+            (WriteKeeping, 74) => file_area.fill(0),
+            (WritePlan, 14) if before.len() < length => return refusal(74),
+            (WriteTables, 1..=8) if before.is_empty() => return refusal(74),
+            (WriteRefused, 1..) => answer.values[0] = usize::MAX,
+            (WritePlace, 74) => answer.place = before.len(),
+            (WriteSize, 0) => answer.values[0] -= 512,
+            (_, 0) => {
+                let blocks = file.chunks_mut(512).enumerate();
+                blocks.for_each(|(index, block)| self.write_block(index, block));
+            }
+            _ => {}
+        }
+        answer
+    }
+
+    /// Writes a block again as the damaged copy does.
+    fn write_block(&self, index: usize, block: &mut [u8]) {
+        match self.0 {
+            WriteNumbers => put_word(block, 0, index + 1),
+            WriteKind => put_word(block, 2, 1),
+            WriteCount if index == 4 => put_word(block, 4, 504),
+            _ => {}
+        }
+        put_sum(block);
+        let words = block[..510].chunks(2).map(|word| [word[0], word[1]]);
+        let mut words: Vec<u16> = words.map(u16::from_le_bytes).collect();
+        match self.0 {
+            WriteSum => {
+                words.pop();
+                let sum = words.into_iter().fold(0, u16::wrapping_add);
+                put_word(block, 510, sum.into());
+            }
+            WriteWrap => {
+                let sum = words.into_iter().fold(0, u16::saturating_add);
+                put_word(block, 510, sum.into());
+            }
+            WriteHigh => [0, 2, 4, 510].iter().for_each(|&at| block.swap(at, at + 1)),
+            _ => {}
+        }
     }
 
     fn unfold_checked(
@@ -710,6 +844,11 @@ impl Damaged {
     }
 }
 
+/// The bytes of a plan's station file.
+fn file_length(plan: &[u8]) -> usize {
+    512 * (5 + plan.len().div_ceil(504))
+}
+
 /// Whether an action of a basic plan is a product's first factor, and no path finishes behind it.
 fn is_stuck(plan: &[u8], place: usize) -> bool {
     let starts = starts(plan);
@@ -752,6 +891,9 @@ impl Implementation for Damaged {
             Call::ReadStation(file, tables_area, plan_area) => {
                 self.read_station(file, tables_area, plan_area)
             }
+            Call::WriteStation(tables, plan, file_area) => {
+                self.write_station(tables, plan, file_area)
+            }
             Call::ListStation(file, out) => self.list_station(file, out),
             Call::ReadText(tables, text, plan_area) => self.read_text(tables, text, plan_area),
             Call::FreshWalk(tables, plan, marks, finish) => {
@@ -773,7 +915,7 @@ fn an_undamaged_copy_agrees() {
     assert_eq!(agreement.numbers.values().sum::<u64>(), 4000);
     // Every number but some rare ones comes up.
     let met: Vec<u8> = agreement.numbers.into_keys().collect();
-    let listed = [1..=8, 11..=18, 31..=36, 51..=55, 61..=63, 70..=73];
+    let listed = [1..=8, 11..=18, 31..=36, 51..=55, 61..=63, 70..=74];
     for number in listed.into_iter().flatten() {
         assert!(met.contains(&number), "{number}");
     }
@@ -836,7 +978,7 @@ fn a_text_is_made_small_and_printed() {
 
 #[test]
 fn a_walk_is_made_small_and_printed() {
-    let difference = compare(&Reference, &Damaged(WalkBranch), 10_000, 27).unwrap_err();
+    let difference = compare(&Reference, &Damaged(WalkBranch), 10_000, 24).unwrap_err();
     let Case::Walk(case) = &difference.case else {
         panic!("{difference}");
     };
@@ -854,7 +996,7 @@ fn a_walk_is_made_small_and_printed() {
         "{printed}"
     );
     // A list of messages needs one; each call is printed.
-    let difference = compare(&Reference, &Damaged(WalkSum), 10_000, 27).unwrap_err();
+    let difference = compare(&Reference, &Damaged(WalkSum), 10_000, 24).unwrap_err();
     let Case::Messages(case) = &difference.case else {
         panic!("{difference}");
     };
@@ -869,7 +1011,7 @@ fn a_walk_is_made_small_and_printed() {
 
 #[test]
 fn a_precedence_is_made_small_and_printed() {
-    let difference = compare(&Reference, &Damaged(BeforeGreatest), 10_000, 3).unwrap_err();
+    let difference = compare(&Reference, &Damaged(BeforeGreatest), 10_000, 2).unwrap_err();
     let Case::Precedes(case) = &difference.case else {
         panic!("{difference}");
     };
@@ -880,12 +1022,60 @@ fn a_precedence_is_made_small_and_printed() {
     assert!(printed.contains("  first: number 0, values [0, 0], place 0\n"));
     assert!(printed.contains("  second: number 0, values [0, 1], place 0\n"));
     // A plan as long as can be needs few of its words.
-    let difference = compare(&Reference, &Damaged(BeforeEnd), 10_000, 3).unwrap_err();
+    let difference = compare(&Reference, &Damaged(BeforeEnd), 10_000, 29).unwrap_err();
     let (drawn, small) = (Case::draw(difference.seed), &difference.case);
     let (Case::Precedes(drawn), Case::Precedes(small)) = (&drawn, small) else {
         panic!("{difference}");
     };
     assert_eq!((drawn.plan.len(), small.plan.len()), (16_383, 3));
+}
+
+#[test]
+fn a_writing_is_made_small_and_printed() {
+    // A plan of many blocks needs one of its words, and the area stays one byte too short.
+    let difference = compare(&Reference, &Damaged(WriteShort), 10_000, 3).unwrap_err();
+    let (drawn, small) = (Case::draw(difference.seed), &difference.case);
+    let (Case::WriteStation(drawn), Case::WriteStation(small)) = (&drawn, small) else {
+        panic!("{difference}");
+    };
+    assert_eq!((drawn.plan.len(), drawn.area.len()), (16_128, 18_943));
+    assert_eq!((&small.plan[..], small.area.len()), (&[0][..], 3071));
+    let printed = difference.to_string();
+    assert!(printed.starts_with("difference in the case of seed "));
+    assert!(printed.contains("write_station\n  tables: "), "{printed}");
+    assert!(printed.contains("  plan: [0]\n  file area: [255; 3071]\n"));
+    assert!(printed.contains("  first: number 74, values [0, 0], place 0\n    [255; 3071]\n"));
+    // Of a file, what is not zero.
+    let file = "    3071 bytes, zero but 2:1 4:248 5:1 ";
+    let second = format!("  second: number 0, values [3072, 0], place 0\n{file}");
+    assert!(printed.contains(&second), "{printed}");
+}
+
+#[test]
+fn a_round_trip_is_made_small_and_printed() {
+    let difference = compare(&Reference, &Damaged(WriteRoom), 10_000, 3).unwrap_err();
+    let Case::Reread(case) = &difference.case else {
+        panic!("{difference}");
+    };
+    let writing = &case.writing;
+    assert_eq!((&writing.plan[..], writing.area.len()), (&[0][..], 3072));
+    // The first implementation goes on to read what it wrote, and the second has written nothing.
+    assert_eq!(difference.first.before.len(), 1);
+    assert_eq!(difference.second.before.len(), 0);
+    let printed = difference.to_string();
+    assert!(printed.contains("write_station, then read_station\n"));
+    assert!(printed.contains("  second: number 74, "), "{printed}");
+    // A file as long as can be needs six blocks.
+    let difference = compare(&Reference, &Damaged(WriteRoom), 10_000, 10).unwrap_err();
+    let (drawn, small) = (Case::draw(difference.seed), &difference.case);
+    let (Case::Rewrite(drawn), Case::Rewrite(small)) = (&drawn, small) else {
+        panic!("{difference}");
+    };
+    let lengths = [drawn, small].map(|case| (case.reading.file.len(), case.area.len()));
+    assert_eq!(lengths, [(19_456, 19_456), (3072, 3072)], "{difference}");
+    let printed = difference.to_string();
+    assert!(printed.contains("read_station, then write_station\n"));
+    assert!(printed.contains("  file area: [255; 3072]\n"), "{printed}");
 }
 
 #[test]
@@ -958,7 +1148,7 @@ fn every_kind_of_listing_is_drawn() {
 #[test]
 fn every_kind_of_count_is_drawn() {
     let (mut met, mut longest) = (BTreeMap::new(), 0);
-    for seed in 0..16_000 {
+    for seed in 0..24_000 {
         let case = Case::draw(seed);
         let Case::CountOrders(_, plan) = &case else {
             continue;
@@ -1187,4 +1377,99 @@ fn every_kind_of_precedence_is_drawn() {
     );
     assert!(met.values().all(|&count| count > 5), "{met:?}");
     assert_eq!(longest, [16_383; 2]);
+}
+
+/// The kind of a case by its answer, and by how long the area is beside the file.
+fn kind_of_writing(case: &WriteCase, number: u8) -> &'static str {
+    let (area, file) = (case.area.len(), file_length(&case.plan));
+    match number {
+        1..=8 if area < file => "tables, the area too short",
+        1..=8 => "tables",
+        11..=14 if area < file => "plan, the area too short",
+        11..=14 => "plan",
+        74 if area == 0 => "74, no area",
+        74 if area + 1 == file => "74, one byte too short",
+        74 => "74",
+        _ if area == file => "written, the area full",
+        _ if area == file + 1 => "written, one byte behind",
+        _ => "written",
+    }
+}
+
+#[test]
+fn every_kind_of_writing_is_drawn() {
+    let (mut met, mut numbers, mut sizes) = (BTreeMap::new(), BTreeSet::new(), BTreeSet::new());
+    for seed in 0..32_000 {
+        let case = Case::draw(seed);
+        if let Case::WriteStation(writing) = &case {
+            let number = case.run(&Reference).answer.number;
+            *met.entry(kind_of_writing(writing, number)).or_insert(0) += 1;
+            numbers.insert(number);
+            if number == 0 {
+                sizes.insert(writing.plan.len());
+            }
+        }
+    }
+    let kinds: Vec<&str> = met.keys().copied().collect();
+    assert_eq!(
+        kinds,
+        [
+            "74",
+            "74, no area",
+            "74, one byte too short",
+            "plan",
+            "plan, the area too short",
+            "tables",
+            "tables, the area too short",
+            "written",
+            "written, one byte behind",
+            "written, the area full"
+        ]
+    );
+    assert!(met.values().all(|&count| count > 5), "{met:?}");
+    let all = (0..=8).chain(11..=14).chain([74]);
+    assert_eq!(numbers, all.collect());
+    // A block full, begun, and all of the longest plan's.
+    for size in [1, 503, 504, 505, 1008, 16_128, 16_129, 16_384] {
+        assert!(sizes.contains(&size), "{size}");
+    }
+}
+
+#[test]
+fn round_trips_come_back() {
+    let (mut reread, mut rewritten) = (Vec::new(), Vec::new());
+    for seed in 0..32_000 {
+        let case = Case::draw(seed);
+        let outcome = case.run(&Reference);
+        match &case {
+            // The reader finds what the writer was handed.
+            Case::Reread(case) => {
+                let (writing, size) = (&case.writing, outcome.before[0].answer.values[0]);
+                let wanted = [(&writing.tables, &case.tables), (&writing.plan, &case.plan)];
+                for (found, (content, area)) in outcome.lent.iter().zip(wanted) {
+                    assert!(*found == padded(content, area.len()), "{seed}");
+                }
+                reread.push(size);
+            }
+            // The writer leaves the file that the reader was handed.
+            Case::Rewrite(case) => {
+                let wanted = padded(&case.reading.file, case.area.len());
+                assert!(outcome.lent[0] == wanted, "{seed}");
+                rewritten.push(case.reading.file.len());
+            }
+            _ => continue,
+        }
+        assert_eq!((outcome.answer.number, outcome.before.len()), (0, 1));
+    }
+    for sizes in [reread, rewritten] {
+        assert!(sizes.len() > 100, "{}", sizes.len());
+        assert_eq!(sizes.iter().max(), Some(&(38 * 512)));
+    }
+}
+
+/// Bytes with zeros behind them.
+fn padded(content: &[u8], length: usize) -> Vec<u8> {
+    let mut padded = content.to_vec();
+    padded.resize(length, 0);
+    padded
 }

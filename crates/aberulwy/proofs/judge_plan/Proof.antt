@@ -1,5 +1,6 @@
 -- `aberulwy::judge_plan` meets its contract: the answer is the lower layer's, and acceptance means the words of one term.
-use Rattle.aberulwy.proofs.Judging.{numbers-of, accepts-iff}
+use Rattle.refusals.proofs.Judging.{accepts-iff}
+use Rattle.aberulwy.proofs.Judging.{numbers-of}
 use borrow.Author.Needs.{needs}
 use Rattle.plans.specs.Judging.{plan-refusal}
 use Rattle.plans.proofs.Accepted.{accepted-plan}

@@ -1,7 +1,7 @@
--- `aberulwy::read_station` meets its contract: the answer and the lent bytes are the lower layer's.
-use mathlib.Core.Path.{ap, _∙_}
-use Rattle.stations.specs.File.{StationOutcome, station-report}
-use Rattle.stations.proofs.Reading.{station-reported}
+-- `aberulwy::read_station` meets its contract: the answer and the lent bytes are the lower layer's, and what is claimed
+-- follows from them, since a file that is lent is bytes.
+use native.Mathlib.Omega.{arith}
+use Rattle.writing.proofs.Claims.{read-said}
 use borrow.Author.Needs.{needs}
 use Rattle.aberulwy.proofs.read_station.Statement.{statement}
 use Rattle.aberulwy.proofs.read_station.Tie as tie
@@ -17,9 +17,9 @@ same-length-2 c = search needs
 
 returns : tie.Need-returns
 returns c =
-    let k = c .before .before .before .before .before .before .before .before .before .before .args in
-    let e = c .before .before .before .before .read-station .ensures in
-    (e, ap (λ (o : StationOutcome). station-report (o .answer)) e ∙ station-reported (k .file .now) (k .tables .now) (k .plan .now))
+    let read = c .before .before .before .before in
+    let k = read .before .before .before .before .before in
+    read-said _ _ _ (λ i. omega (arith, k .shared-slice-known .given i)) (read .read-station .ensures)
 
 pub read-station-spec : {M : Type 1} → statement M
 read-station-spec = tie.close (tie.spec read-station-requires same-length same-length-2 returns)

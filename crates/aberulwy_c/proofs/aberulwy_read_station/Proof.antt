@@ -5,6 +5,7 @@ use Rattle.aberulwy_c.specs.Answers.{of-station}
 use Rattle.stations.specs.File.{station-report}
 use borrow.Author.Needs.{needs}
 use Rattle.aberulwy_c.proofs.Answers.{said, refused, returned-1}
+use Rattle.aberulwy_c.proofs.Stations.{station-read-seen}
 use Rattle.aberulwy_c.proofs.aberulwy_read_station.Statement.{statement}
 use Rattle.aberulwy_c.proofs.aberulwy_read_station.Tie as tie
 
@@ -29,7 +30,8 @@ same-length-2 c = search needs
 returns : tie.Need-returns
 returns c =
     let u = c .before .before .before .before .before .before .before .read-station .ensures in
-    returned-1 _ (said station-report _ (c .before .read .given .1) refl) ∙ ap of-station (u .0)
+    let a = said station-report _ (c .before .read .given .1) refl in
+    (returned-1 _ a ∙ ap of-station (u .0), station-read-seen _ _ _ (u .0) (u .1 .1) a)
 
 same-length-3 : tie.Need-same-length-3
 same-length-3 c = search needs
@@ -41,7 +43,8 @@ returns-2 : tie.Need-returns-2
 returns-2 c =
     let u = c .before .before .before .before .before .before .before .before .before .read-station .ensures in
     let k = c .before .before .before in
-    returned-1 _ (refused station-report (k .refusal .given .0 .0) (k .refusal .given .1) refl refl (c .refuse .ensures)) ∙ ap of-station (u .0)
+    let a = refused station-report (k .refusal .given .0 .0) (k .refusal .given .1) refl refl (c .refuse .ensures) in
+    (returned-1 _ a ∙ ap of-station (u .0), station-read-seen _ _ _ (u .0) (u .1 .1) a)
 
 pub aberulwy-read-station-spec : {M : Type 1} → statement M
 aberulwy-read-station-spec =

@@ -1,32 +1,37 @@
-//! Prints, as Markdown tables, what a step takes, a word of a plan or a character of a text, in an
-//! earlier proved library and in the one of now, measured in turns. Ends at the first call on which
-//! they differ.
+//! Prints, as Markdown tables, what a step takes, a word of a plan, a character of a text or a block
+//! of a station file, in an earlier proved library and in the one of now, measured in turns. Ends at
+//! the first call on which they differ.
 
 use before::BEFORE;
 use benchmarks::contenders::{Contender, PROVED};
 use benchmarks::measuring::{cell, least_times, mean};
 use benchmarks::workloads::{
-    counts, growing_sums, judgements, merges_in_growing_areas, merges_of_longer_chains, sizes,
-    texts, walks, Places, Replay, Workload, REPLAYED,
+    counts, growing_sums, judgements, merges_in_growing_areas, merges_of_longer_chains,
+    precedences, sizes, station_files, texts, walks, Places, Replay, Workload, REPLAYED,
 };
 
 fn main() {
     println!(
-        "Nanoseconds for a step, a word of a plan or a character of a text. Each number is the least"
+        "Nanoseconds for a step, a word of a plan, a character of a text or a block of a station file."
     );
     println!(
-        "of several turns, which the two libraries took one after the other; they agreed in every"
+        "Each number is the least of several turns, which the two libraries took one after the other;"
     );
     println!(
-        "number answered and in every lent byte. Steps or words alone: the call less the same call"
+        "they agreed in every number answered and in every lent byte. Steps or words alone: the call"
     );
-    println!("with a plan of one action.");
+    println!(
+        "less the same call with a plan of one action. Blocks alone: the same call with a plan area"
+    );
+    println!("of no bytes, which is refused when the blocks are read.");
     unfoldings();
     replays();
     read_texts();
     messages();
     judged_plans();
     questions();
+    preceding_actions();
+    read_files();
 }
 
 /// Both libraries.
@@ -182,6 +187,26 @@ fn questions() {
     table.end();
 }
 
+fn preceding_actions() {
+    let mut table = Table::begin("precedence | words | answer", ["call", "words alone"]);
+    for (names, mut asking) in precedences() {
+        let (words, empty) = (asking.plan.len(), asking.of_one_action());
+        table.row(&names, measure_alone(&names, &mut asking, empty, words));
+    }
+    table.end();
+}
+
+fn read_files() {
+    let mut table = Table::begin("file read | words | blocks", ["call", "blocks alone"]);
+    for (names, writing) in station_files() {
+        let (mut reading, blocks) = (writing.read_back(), writing.blocks());
+        let call = measure(&names, &mut reading, blocks);
+        let alone = measure(&names, &mut reading.blocks_alone(), blocks);
+        table.row(&names, [call, alone]);
+    }
+    table.end();
+}
+
 /// What one of so many parts takes, before and now.
 struct Pair {
     before: f64,
@@ -305,6 +330,29 @@ mod before {
             plan_len: usize,
             orders: *mut usize,
             stuck: *mut usize,
+            place: *mut usize,
+        ) -> u8;
+
+        fn before_precedes(
+            tables: *const u8,
+            tables_len: usize,
+            plan: *const u8,
+            plan_len: usize,
+            first: u8,
+            second: u8,
+            yes: *mut usize,
+            at: *mut usize,
+            place: *mut usize,
+        ) -> u8;
+
+        fn before_read_station(
+            file: *const u8,
+            file_len: usize,
+            tables: *mut u8,
+            tables_len: usize,
+            plan: *mut u8,
+            plan_len: usize,
+            size: *mut usize,
             place: *mut usize,
         ) -> u8;
     }
@@ -439,8 +487,39 @@ mod before {
                 )
             })
         },
-        // The call is new with version 0.9.0, and can be compared from the next version on.
-        precedes: |_, _, _, _| panic!("the earlier library does not ask about two actions"),
+        precedes: |tables, plan, first, second| {
+            // SAFETY: as above.
+            ended(|yes, at, place| unsafe {
+                before_precedes(
+                    tables.as_ptr(),
+                    tables.len(),
+                    plan.as_ptr(),
+                    plan.len(),
+                    first,
+                    second,
+                    yes,
+                    at,
+                    place,
+                )
+            })
+        },
+        // The call is new with version 0.10.0, and can be compared from the next version on.
+        write_station: |_, _, _| panic!("the earlier library writes no station files"),
+        read_station: |file, tables, plan| {
+            // SAFETY: as above.
+            ended(|_, size, place| unsafe {
+                before_read_station(
+                    file.as_ptr(),
+                    file.len(),
+                    tables.as_mut_ptr(),
+                    tables.len(),
+                    plan.as_mut_ptr(),
+                    plan.len(),
+                    size,
+                    place,
+                )
+            })
+        },
     };
 
     /// Makes a call that sets at most two numbers, those of `Ended`, and a place.

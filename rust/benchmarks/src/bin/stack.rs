@@ -12,7 +12,7 @@ use benchmarks::workloads::{
     STOPPED_CHAINS,
 };
 use reference::plans::LONGEST_PLAN;
-use reference::stations::write_station;
+use reference::stations::{station_file, BLOCK, MOST_BLOCKS};
 use reference::tables::{trial_tables, TABLES_LENGTH};
 use reference::texts::DEEPEST;
 use reference::unfolding::RECORD;
@@ -24,7 +24,7 @@ use std::thread::Builder;
 const ENOUGH: usize = 4096;
 /// A thread that asks for less may get more, so less is not tried.
 const LITTLE: usize = 32;
-const CALLS: [&str; 14] = [
+const CALLS: [&str; 15] = [
     "judge_tables",
     "judge_plan",
     "is_basic",
@@ -39,6 +39,7 @@ const CALLS: [&str; 14] = [
     "fresh_walk",
     "walk",
     "precedes",
+    "write_station",
 ];
 
 fn main() {
@@ -122,12 +123,12 @@ fn prepared(call: &str) -> Prepared {
             Box::new(move || raw::reached(&plan, &[], 0, plan.len(), &mut area).number)
         }
         "read_station" => {
-            let file = write_station(&tables, &plan);
+            let file = station_file(&tables, &plan);
             let (mut a, mut b) = (vec![0; TABLES_LENGTH], vec![0; LONGEST_PLAN]);
             Box::new(move || raw::read_station(&file, &mut a, &mut b).number)
         }
         "list_station" => {
-            let file = write_station(&tables, &MERGES[0].plan(2, 20));
+            let file = station_file(&tables, &MERGES[0].plan(2, 20));
             let mut out = vec![0; LONGEST_LISTING];
             Box::new(move || raw::list_station(&file, &mut out).number)
         }
@@ -151,6 +152,10 @@ fn prepared(call: &str) -> Prepared {
         "walk" => all(walks(), proved),
         // Plans of all lengths, deep, wide and random, with both answers.
         "precedes" => all(precedences(), proved),
+        "write_station" => {
+            let mut area = vec![0; BLOCK * MOST_BLOCKS];
+            Box::new(move || raw::write_station(&tables, &plan, &mut area).number)
+        }
         _ => panic!("no call {call}"),
     }
 }

@@ -12,6 +12,7 @@
 //! - the walks: `walks`
 //! - the counting: `counting`
 //! - the precedence, in one pass where the library takes two: `precedence`
+//! - the writer and the reader of station files, which use none of them: `stations`
 
 mod areas;
 mod basic;
@@ -23,6 +24,7 @@ mod graph_laws;
 mod graph_steps;
 mod precedence;
 mod records;
+mod stations;
 mod texts;
 mod unfolding;
 mod walks;
@@ -33,6 +35,7 @@ pub use basic::is_basic;
 pub use checking::check_rewriting;
 pub use counting::count_orders;
 pub use precedence::precedes;
+pub use stations::{read_station, write_station};
 pub use texts::read_text;
 pub use unfolding::unfold;
 pub use walks::{fresh_walk, walk};

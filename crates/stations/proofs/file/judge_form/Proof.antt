@@ -70,7 +70,7 @@ returns-2 c =
     let f = b .before .before .before .before .before .before .before .args .file .now in
     let i = b .before .before .before .loop .i in
     let t = c .enum-told2 .given .1 in
-    t ∙ ap judged (sym (found-stop f i (omega arith) (refused-some (at f i) _ (sym (judged-at f i (b .judge-block .ensures)) ∙ t))) ∙ b .before .before .before .loop .inv .1)
+    t ∙ ap judged (sym (found-stop f i (omega arith) (refused-some (at f i) _ (sym (judged-at f i (b .judge-block .ensures .0)) ∙ t))) ∙ b .before .before .before .loop .inv .1)
 
 add-i : tie.Need-add-i Inv-loop μ-loop
 unfolding blocks
@@ -86,7 +86,7 @@ loop-again c =
     let b = c .before .before in
     let f = b .before .before .before .before .before .before .before .args .file .now in
     let i = b .before .before .before .loop .i in
-    (omega arith, found-turn f i (omega arith) (accepted-none (at f i) (sym (judged-at f i (b .judge-block .ensures)) ∙ c .enum-told .given .1)) ∙ b .before .before .before .loop .inv .1)
+    (omega arith, found-turn f i (omega arith) (accepted-none (at f i) (sym (judged-at f i (b .judge-block .ensures .0)) ∙ c .enum-told .given .1)) ∙ b .before .before .before .loop .inv .1)
 
 returns-3 : tie.Need-returns-3 Inv-loop μ-loop
 unfolding blocks

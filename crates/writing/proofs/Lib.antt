@@ -1,0 +1,8 @@
+mod Joined
+pub mod File
+mod Back
+mod Positions
+pub mod Outcomes
+pub mod Claims
+mod Turns
+mod Examples
