@@ -10,10 +10,11 @@
  * A call takes slices of any length, each a pointer and a length. It reads and writes nothing but these, its out numbers and *finished, and it ends.
  * What it may write to must not overlap anything else handed to it, and no pointer may be null, even where its length is 0.
  *
- * Stack: allow 640 KiB for aberulwy_list_station, 512 KiB for aberulwy_unfold and aberulwy_unfold_checked, 192 KiB for aberulwy_read_text, 128 KiB
- * for aberulwy_check_rewriting and aberulwy_walk, 96 KiB for aberulwy_precedes, and 64 KiB for each other call. Measured in threads on x86-64 Linux,
- * aberulwy_list_station needs 486 KiB, aberulwy_unfold and aberulwy_unfold_checked 354, aberulwy_read_text 131 (for a text 200 brackets deep; no text
- * goes deeper), aberulwy_check_rewriting and aberulwy_walk 86, aberulwy_precedes 54, and the others at most 32. Nothing is allocated.
+ * Stack: allow 640 KiB for aberulwy_list_station, 512 KiB for aberulwy_unfold and aberulwy_unfold_checked, 256 KiB for aberulwy_fix_form, 192 KiB for
+ * aberulwy_read_text, 128 KiB for aberulwy_check_rewriting and aberulwy_walk, 96 KiB for aberulwy_precedes, and 64 KiB for each other call. Measured in
+ * threads on x86-64 Linux, aberulwy_list_station needs 486 KiB, aberulwy_unfold and aberulwy_unfold_checked 354, aberulwy_fix_form 198, aberulwy_read_text
+ * 131 (for a text 200 brackets deep; no text goes deeper), aberulwy_check_rewriting and aberulwy_walk 86, aberulwy_precedes 54, and the others at most
+ * 32. Nothing is allocated.
  *
  * The archive is made by `rt staticlib aberulwy_c`: target/staticlib/libaberulwy_c.a.
  */
@@ -23,7 +24,7 @@
 #include <stddef.h>
 #include <stdint.h>
 
-#define ABERULWY_VERSION "0.10.0"
+#define ABERULWY_VERSION "0.11.0"
 
 #ifdef __cplusplus
 extern "C" {
@@ -117,6 +118,15 @@ uint8_t aberulwy_walk(const uint8_t *tables, size_t tables_len, const uint8_t *p
  * outside 1 to n, then 70 where the plan is not basic. */
 uint8_t aberulwy_precedes(const uint8_t *tables, size_t tables_len, const uint8_t *plan, size_t plan_len, uint8_t first, uint8_t second, size_t *yes,
                           size_t *at, size_t *place);
+
+/* Brings a basic plan to its fixed form, one for all basic plans whose trees are alike, and puts it into an area. Returns 0, and then *size is the form's
+ * length, which is never more than the plan's; the form stands first in the area, and zeros behind. In it remainders are in their fixed form, equal
+ * summands stand once, summands stand in ascending order of their bytes (a shorter one first where it begins the longer), and sums group to the left. Or
+ * returns 1 to 8, 11 to 14, then 70 where the plan is not basic, then 74 where the area is shorter than the form: the area then keeps its bytes. Two basic
+ * plans have equal fixed forms exactly when their trees are alike, whichever tables each comes with, and the fixed form of a fixed form is itself: that
+ * is proved. */
+uint8_t aberulwy_fix_form(const uint8_t *tables, size_t tables_len, const uint8_t *plan, size_t plan_len, uint8_t *area, size_t area_len, size_t *size,
+                          size_t *place);
 
 /* Lists a station file: everything that the program prints for it, refusals too. Returns 0, and then *size is the text's length, and zeros stand
  * behind it; or returns 1 where the area is too short for it: it then keeps its bytes, and *size is 0. No listing is longer than 93,000 bytes. */

@@ -3,6 +3,7 @@
 //! `counts [cases] [seed]`
 
 use reference::random::cases::{check_case, own_rewriting_case, unfold_case};
+use reference::random::forms::form_case;
 use reference::random::precedence::precedence_case;
 use reference::random::stations::{station_case, write_case};
 use reference::random::texts::text_case;
@@ -22,7 +23,7 @@ fn main() {
     let mut number = |default| given.next().map_or(default, |text| text.parse().unwrap());
     let (cases, seed) = (number(20_000), number(1));
     let mut random = Random::new(seed);
-    let kinds: [(&str, Kind); 8] = [
+    let kinds: [(&str, Kind); 9] = [
         ("unfolding, then its own rewriting checked", unfolding),
         ("checking", checking),
         ("station files", stations),
@@ -31,6 +32,7 @@ fn main() {
         ("messages", messages),
         ("precedence", precedence),
         ("station files written", written_stations),
+        ("fixed forms", forms),
     ];
     for (name, kind) in kinds {
         let (counts, slowest, time) = count(cases, &mut random, kind);
@@ -92,6 +94,10 @@ fn precedence(random: &mut Random) -> u8 {
 
 fn written_stations(random: &mut Random) -> u8 {
     number(write_case(random).run().answer)
+}
+
+fn forms(random: &mut Random) -> u8 {
+    number(form_case(random).run().answer)
 }
 
 /// The number of a refusal, 0 where there is none.

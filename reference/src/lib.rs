@@ -7,9 +7,9 @@
 //! sentence that it renders. `docs/FORMATS.md` and `docs/NUMBERS.md` tell the
 //! bytes and the numbers. [`texts`] was written from request 101 of the customer's
 //! change requests, [`walks`] from request 102, the counts of [`plans`] and the program's
-//! first line from request 103, [`precedence`] from request 105, and
-//! [`stations::write_station`] from request 106; [`descriptions`], [`reading`] and [`random`]
-//! are this folder's own.
+//! first line from request 103, [`precedence`] from request 105, [`stations::write_station`] from
+//! request 106, and [`forms`] from request 107; [`descriptions`], [`reading`] and [`random`] are
+//! this folder's own.
 
 #![forbid(unsafe_code)]
 #![warn(missing_docs)]
@@ -17,6 +17,7 @@
 pub mod checking;
 pub mod descriptions;
 pub mod filter;
+pub mod forms;
 pub mod laws;
 pub mod own;
 pub mod plans;

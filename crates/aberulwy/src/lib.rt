@@ -8,6 +8,7 @@
 // stand in crates/NAME/specs, and those of this crate are `Rattle.aberulwy.specs`; `declared` holds the enums and structs of the code.
 // `_≡_ {A = R} x y` is `x ≡ y` between records of type R.
 use checking::Checked;
+use fixing::FormFixed;
 use plans::Counts;
 use precedence::Precedence;
 use refusals::Judgement;
@@ -35,6 +36,8 @@ ghost use Rattle.walks.specs.Outcome.{WalkOutcome, not-walkable-refusal, fresh-
 ghost use Rattle.walks.specs.Claims.{FreshClaims, WalkClaims};
 ghost use Rattle.precedence.specs.Outcome.{precedence-answer, precedence-report, precedence-reported};
 ghost use Rattle.precedence.specs.Claims.{PrecedenceClaims};
+ghost use Rattle.fixing.specs.Outcome.{form-outcome, fixed-report, form-reported, FormOutcome};
+ghost use Rattle.fixing.specs.Claims.{FormClaims};
 ghost use Rattle.areas.specs.Reached.{even?, reached-part};
 ghost use Rattle.unfolding.specs.Unfolding.{unfold-outcome, UnfoldOutcome};
 ghost use Rattle.checking.specs.Checking.{check-outcome, CheckOutcome};
@@ -266,6 +269,19 @@ pub fn precedes(tables: &[u8], plan: &[u8], first: u8, second: u8) -> Precedence
     ensures claims { λ r. ⌜ PrecedenceClaims (now (tables .entry)) (now (plan .entry)) first second r ⌝ }
 {
     precedence::precedes(tables, plan, first, second)
+}
+
+// Brings a basic plan to its fixed form, one for all basic plans whose trees are alike, and puts it into an area, zeros after: the form's length, which is
+// never more than the plan's. Refusals 1 to 8, 11 to 14, then 70 for a plan that is not basic, then 74 for an area shorter than the form, leave the
+// area as it is.
+pub fn fix_form(tables: &[u8], plan: &[u8], area: &mut [u8]) -> FormFixed
+    ensures whole { λ r. ⌜ _≡_ {A = FormOutcome} (record { answer = r; area = now (area .exit) })
+        (form-outcome (now (tables .entry)) (now (plan .entry)) (now (area .entry))) ⌝ }
+    ensures numbers { λ r. ⌜ fixed-report r ≡ form-reported (now (tables .entry)) (now (plan .entry)) (length (now (area .entry))) ⌝ }
+    ensures claims { λ r. ⌜ FormClaims (now (tables .entry)) (now (plan .entry)) (now (area .entry))
+        (record { answer = r; area = now (area .exit) }) ⌝ }
+{
+    fixing::fix_form(tables, plan, area)
 }
 
 // The check of an unfolding's own rewriting; nothing is checked where the unfolding was refused.

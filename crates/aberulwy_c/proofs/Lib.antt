@@ -6,3 +6,4 @@ mod Stations
 mod Texts
 mod Walks
 mod Precedence
+mod Forms

@@ -15,6 +15,7 @@ use Rattle.checking.specs.Checking.{check-outcome, CheckOutcome}
 use Rattle.stations.specs.File.{station-outcome, station-report, StationOutcome}
 use Rattle.writing.specs.Writing.{write-outcome, written-report, WriteOutcome}
 use Rattle.texts.specs.Text.{text-outcome, text-report, TextOutcome}
+use Rattle.fixing.specs.Outcome.{form-outcome, fixed-report, FormOutcome}
 use Rattle.walks.specs.Progress.{Progress}
 use Rattle.walks.specs.Outcome.{WalkOutcome, fresh-outcome, walk-outcome}
 use Rattle.aberulwy.specs.Judging.{bit}
@@ -75,6 +76,13 @@ of-text o = returned 1 (text-report (o .answer)) (o .plan ∷ [])
 
 abbrev pub text-returned : Tables → List ℕ → List ℕ → Returned
 text-returned tables text plan = of-text (text-outcome tables text plan)
+
+-- a plan brought to its form: the form's size; the area
+abbrev pub of-fixed : FormOutcome → Returned
+of-fixed o = returned 1 (fixed-report (o .answer)) (o .area ∷ [])
+
+abbrev pub fixed-returned : Tables → List ℕ → List ℕ → Returned
+fixed-returned tables plan area = of-fixed (form-outcome tables plan area)
 
 -- 1 or 0 for whether a finish is reached, and under a refusal the number that was held
 abbrev pub finish-left : Judgement → ℕ → Bool → ℕ

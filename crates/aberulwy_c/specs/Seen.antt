@@ -25,6 +25,9 @@ use Rattle.walks.specs.Claims.{FreshClaims, WalkClaims}
 use Rattle.precedence.specs.declared.Precedence.{Precedence}
 use Rattle.precedence.specs.declared.Precedence.the-variants.{Yes, No, Refused as Not-answered}
 use Rattle.precedence.specs.Claims.{PrecedenceClaims}
+use Rattle.fixing.specs.declared.FormFixed.{FormFixed}
+use Rattle.fixing.specs.declared.FormFixed.the-variants.{Fixed, Refused as Not-fixed}
+use Rattle.fixing.specs.Claims.{FormClaims}
 use Rattle.tables.specs.Tables.{Tables}
 use Rattle.plans.specs.Accepted.{AcceptedPlan}
 use Rattle.paths.specs.Counts.{CountClaims}
@@ -83,6 +86,11 @@ pub data PrecededAs : Precedence → ℕ → ℕ → ℕ → ℕ → Type 0 wher
   is-so : PrecededAs Yes 0 0 1 0
   not-so : (at : ℕ) → PrecededAs (No at) 0 0 0 at
   refused : (f : Refusal) → 1 ≤ f .number → f .number ≤ 73 → PrecededAs (Not-answered f) (f .number) (printed (f .place)) 0 0
+
+-- The answer of bringing a plan to its form by the number answered and the place and size set: 0 is fixed, 1 to 74 are refusals.
+pub data FormFixedAs : FormFixed → ℕ → ℕ → ℕ → Type 0 where
+  fixed : (size : ℕ) → FormFixedAs (Fixed size) 0 0 size
+  refused : (f : Refusal) → 1 ≤ f .number → f .number ≤ 74 → FormFixedAs (Not-fixed f) (f .number) (printed (f .place)) 0
 
 -- Of an unfolding that left these bytes: what is claimed of it holds of the answer seen.
 pub record UnfoldSeen (given : UnfoldGiven) (list a b : List ℕ) (number place steps size : ℕ) : Type 0 where
@@ -160,3 +168,9 @@ pub record PrecedenceSeen (tables : Tables) (plan : List ℕ) (first second numb
   pub answer : Precedence
   pub seen : PrecededAs answer number place yes at
   pub claims : PrecedenceClaims tables plan first second answer
+
+-- Of bringing a plan to its form, which left these bytes in the area.
+pub record FormSeen (tables : Tables) (plan area left : List ℕ) (number place size : ℕ) : Type 0 where
+  pub answer : FormFixed
+  pub seen : FormFixedAs answer number place size
+  pub claims : FormClaims tables plan area (record { answer = answer; area = left })

@@ -5,6 +5,7 @@ use aberulwy::BasicAnswer;
 use aberulwy::OrdersAnswer;
 use aberulwy::OwnCheck;
 use checking::Checked;
+use fixing::FormFixed;
 use listing::Listed;
 use precedence::Precedence;
 use refusals::Judgement;
@@ -33,10 +34,10 @@ ghost use Rattle.listing.specs.Writing.{most};
 ghost use Rattle.listing.specs.Endings.{Endings};
 ghost use Rattle.aberulwy_c.specs.Answers.{Returned, returned, HandedOver, handed-over};
 ghost use Rattle.aberulwy_c.specs.Answers.{unfold-returned, check-returned, both-returned, station-returned, written-returned, text-returned};
-ghost use Rattle.aberulwy_c.specs.Answers.{fresh-returned, walk-returned};
+ghost use Rattle.aberulwy_c.specs.Answers.{fresh-returned, walk-returned, fixed-returned};
 ghost use Rattle.aberulwy_c.specs.Handing.{Answered, MaybeAnswered, WalkAnswered};
 ghost use Rattle.aberulwy_c.specs.Seen.{OrdersSeen, UnfoldSeen, CheckSeen, StepSeen, OwnSeen, TextSeen, FreshSeen, WalkSeen};
-ghost use Rattle.aberulwy_c.specs.Seen.{PrecedenceSeen, StationReadSeen, StationWrittenSeen};
+ghost use Rattle.aberulwy_c.specs.Seen.{PrecedenceSeen, StationReadSeen, StationWrittenSeen, FormSeen};
 
 // Answers a refusal's number and sets its place.
 fn refuse(refusal: Refusal, place: &mut usize) -> u8
@@ -560,6 +561,38 @@ pub extern "C" fn aberulwy_precedes(
             0
         }
         Precedence::Refused(refusal) => refuse(refusal, place),
+    }
+}
+
+// Brings a basic plan to its fixed form and puts it into an area, zeros after: 0 with the form's length; or the number of the refusal and its place, and
+// then the area keeps its bytes.
+#[no_mangle]
+pub extern "C" fn aberulwy_fix_form(
+    tables: &[u8],
+    plan: &[u8],
+    area: &mut [u8],
+    size: &mut usize,
+    place: &mut usize,
+) -> u8
+    ensures whole { λ r. ⌜ _≡_ {A = Returned}
+        (record {
+          number = r;
+          place = now (place .exit);
+          values = now (size .exit) ∷ [];
+          areas = now (area .exit) ∷ [];
+        })
+        (fixed-returned (now (tables .entry)) (now (plan .entry)) (now (area .entry))) ⌝ }
+    ensures claims { λ r. ⌜ FormSeen (now (tables .entry)) (now (plan .entry)) (now (area .entry)) (now (area .exit))
+        r (now (place .exit)) (now (size .exit)) ⌝ }
+{
+    *size = 0;
+    *place = 0;
+    match aberulwy::fix_form(tables, plan, area) {
+        FormFixed::Fixed { size: form } => {
+            *size = form;
+            0
+        }
+        FormFixed::Refused(refusal) => refuse(refusal, place),
     }
 }
 

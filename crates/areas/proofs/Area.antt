@@ -1,11 +1,14 @@
 -- Laws of words written over an area and of zeros behind them.
 use Prim.Native.Nat.{ℕ, _+_, _-_, _≤_, _<_}
-use mathlib.Core.Path.{_≡_, sym, _∙_, ap}
+use mathlib.Core.Path.{_≡_, refl, sym, _∙_, ap}
+use mathlib.Core.Bool.{Bool, true, false}
 use mathlib.Core.List.{List, [], _∷_, _++_, append-assoc, append-nil}
 use native.Mathlib.Omega.{arith}
 use native.Mathlib.Numerals.{add-one}
-use lib.ListN.{length, getD, set, take, drop, replicate, length-append, length-drop, drop-of-length-le, replicate-append-replicate, take-append-drop}
-use lib.Seq.{paste, paste-suc, set-split, take-length, take-all, take-suc-set, length-take-le, take-at, drop-at, drop-drop, drop-append-seam}
+use lib.ListN.{length, getD, set, take, drop, replicate, length-append, length-drop, drop-of-length-le, replicate-append-replicate, take-append-drop, getD-replicate, length-replicate, List·getD-append, List·getD-eq-default}
+use lib.Seq.{paste, paste-suc, set-split, take-length, take-all, take-suc-set, length-take-le, take-at, drop-at, drop-drop, drop-append-seam, getD-append-add}
+use lib.Dec.{ltb}
+use borrow.Author.Tests.{ltb-true, ltb-false}
 use Rattle.areas.specs.Area.{overwrite, padded}
 
 -- a copy of every element is the area written over
@@ -97,3 +100,27 @@ padded-whole d d′ w h l e =
     let z : 0 + length w ≡ length w = omega arith in
     let t : take (length w) d′ ≡ w = rw e (rw z at (take-overwrite d 0 w (omega arith))) in
     rw (t, l)
+
+zeros-at : (m i : ℕ) → _≡_ {A = ℕ} (getD (replicate m 0) i 0) 0
+zeros-at m i = go (ltb i m) refl
+  where
+    go : (b : Bool) → ltb i m ≡ b → _≡_ {A = ℕ} (getD (replicate m 0) i 0) 0
+    go true e = getD-replicate {A = ℕ} m i 0 0 (ltb-true i m e)
+    go false e =
+        let a = ltb-false i m e in
+        List·getD-eq-default {A = ℕ} (replicate m 0) 0 {n = i} (omega (arith, length-replicate {A = ℕ} m 0))
+
+-- a list with zeros behind it has the list's bytes, and zero elsewhere
+pub padded-at : (l : List ℕ) (n j : ℕ) → getD (padded l n) j 0 ≡ getD l j 0
+unfolding padded
+padded-at l n j = go (ltb j (length l)) refl
+  where
+    go : (b : Bool) → ltb j (length l) ≡ b → getD (l ++ replicate (n - length l) 0) j 0 ≡ getD l j 0
+    go true e = List·getD-append l (replicate (n - length l) 0) 0 j (ltb-true j (length l) e)
+    go false e =
+        let a = ltb-false j (length l) e in
+        let q : j ≡ length l + (j - length l) = omega arith in
+        ap (λ (i : ℕ). getD (l ++ replicate (n - length l) 0) i 0) q
+        ∙ getD-append-add l (replicate (n - length l) 0) (j - length l) 0
+        ∙ zeros-at (n - length l) (j - length l)
+        ∙ sym (List·getD-eq-default l 0 {n = j} a)

@@ -14,6 +14,7 @@ use Rattle.refusals.specs.declared.Refusal.{Refusal}
 use Rattle.refusals.specs.Refusal.{refuse-unless, refuse-if, or-else}
 use Rattle.refusals.proofs.Judging.{none-of-both}
 use Rattle.areas.specs.Area.{padded}
+use Rattle.areas.proofs.Area.{padded-at}
 use Rattle.blocks.proofs.Made.{Bytes}
 use Rattle.plans.specs.Judging.{plan-refusal}
 use Rattle.plans.specs.Accepted.{AcceptedPlan}
@@ -29,7 +30,7 @@ use Rattle.writing.specs.Writing.{station-file, block-count, file-length
 use Rattle.writing.specs.Claims.{stands-at, NotWritten, by-plan, short-area, WriteClaims, StationFile, ReadClaims}
 use Rattle.writing.proofs.File.{file-long, file-tables, file-plan, form-due}
 use Rattle.writing.proofs.Back.{file-back}
-use Rattle.writing.proofs.Positions.{padded-at, tables-stand, words-stand}
+use Rattle.writing.proofs.Positions.{tables-stand, words-stand}
 use Rattle.writing.proofs.Outcomes.{write-accepted, accepted-write, short-refused, plan-refused, not-written, written-numbers}
 
 -- The reader after the writer

@@ -1,24 +1,18 @@
 -- What writing a file comes to, by what judging finds.
 use Prim.Native.Nat.{ℕ, _≤_, _<_}
 use mathlib.Core.Path.{_≡_, refl}
-use mathlib.Core.Bool.{Bool, true, false}
 use mathlib.Core.List.{List, [], _∷_}
 use mathlib.Core.Option.{Option, none, some}
-use native.Mathlib.Omega.{arith}
 use lib.ListN.{length}
 use lib.Dec.{ltb}
 use borrow.Author.Tests.{lt-ltb, le-ltb, ltb-false}
 use Rattle.refusals.specs.declared.Place.the-variants.{Nowhere}
 use Rattle.refusals.specs.declared.Refusal.{Refusal}
 use Rattle.refusals.specs.Refusal.{refuse, refuse-if, reported}
-use Rattle.refusals.proofs.Judging.{none-of-both}
+use Rattle.refusals.proofs.Judging.{none-of-both, not-met}
 use Rattle.plans.specs.Judging.{plan-refusal}
 use Rattle.writing.specs.declared.StationWritten.the-variants.{Refused}
 use Rattle.writing.specs.Writing.{station-file, file-length, write-refusal, WriteOutcome, written-unless, write-outcome, written-report}
-
-not-met : (b : Bool) (k : ℕ) → refuse-if b k ≡ none → b ≡ false
-not-met false k e = refl
-not-met true k e = let q : _≡_ {A = ℕ} 0 1 = cc in absurd (omega arith)
 
 module _ (t ws : List ℕ) (n : ℕ) where
   pub write-accepted : write-refusal t ws n ≡ none → (plan-refusal t ws ≡ none) × (file-length (length ws) ≤ n)

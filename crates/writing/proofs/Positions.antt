@@ -1,44 +1,18 @@
 -- Where each byte of the tables and each word of the plan stands in a written file.
-use Prim.Native.Nat.{ℕ, _+_, _-_, _*_, _/_, _%_, _≤_, _<_}
-use mathlib.Core.Path.{_≡_, refl, sym, _∙_, ap}
-use mathlib.Core.Bool.{Bool, true, false}
-use mathlib.Core.List.{List, _++_}
+use Prim.Native.Nat.{ℕ, _+_, _*_, _/_, _%_, _≤_, _<_}
+use mathlib.Core.Path.{_≡_, sym, _∙_, ap}
+use mathlib.Core.List.{List}
 use native.Mathlib.Omega.{arith}
-use lib.ListN.{length, getD, drop, replicate, length-replicate, getD-replicate, List·getD-append, List·getD-eq-default}
-use lib.Seq.{getD-take, getD-drop, getD-append-add}
-use lib.Dec.{ltb}
-use borrow.Author.Tests.{ltb-true, ltb-false}
+use lib.ListN.{length, getD, drop, List·getD-append}
+use lib.Seq.{getD-take, getD-drop}
 use Rattle.areas.specs.Area.{padded}
 use Rattle.blocks.specs.Block.{sum-due, two-bytes, unsummed, with-sum, block-of}
 use Rattle.blocks.proofs.Made.{length-padded}
 use Rattle.stations.specs.File.{block}
 use Rattle.writing.specs.Writing.{part, held-due, block-due, block-count, station-file}
 use Rattle.writing.specs.Claims.{stands-at}
+use Rattle.areas.proofs.Area.{padded-at}
 use Rattle.writing.proofs.File.{file-block, tables-due, plan-due, held-short}
-
-zeros-at : (m i : ℕ) → _≡_ {A = ℕ} (getD (replicate m 0) i 0) 0
-zeros-at m i = go (ltb i m) refl
-  where
-    go : (b : Bool) → ltb i m ≡ b → _≡_ {A = ℕ} (getD (replicate m 0) i 0) 0
-    go true e = getD-replicate {A = ℕ} m i 0 0 (ltb-true i m e)
-    go false e =
-        let a = ltb-false i m e in
-        List·getD-eq-default {A = ℕ} (replicate m 0) 0 {n = i} (omega (arith, length-replicate {A = ℕ} m 0))
-
--- a list with zeros behind it has the list's bytes, and zero elsewhere
-pub padded-at : (l : List ℕ) (n j : ℕ) → getD (padded l n) j 0 ≡ getD l j 0
-unfolding padded
-padded-at l n j = go (ltb j (length l)) refl
-  where
-    go : (b : Bool) → ltb j (length l) ≡ b → getD (l ++ replicate (n - length l) 0) j 0 ≡ getD l j 0
-    go true e = List·getD-append l (replicate (n - length l) 0) 0 j (ltb-true j (length l) e)
-    go false e =
-        let a = ltb-false j (length l) e in
-        let q : j ≡ length l + (j - length l) = omega arith in
-        ap (λ (i : ℕ). getD (l ++ replicate (n - length l) 0) i 0) q
-        ∙ getD-append-add l (replicate (n - length l) 0) (j - length l) 0
-        ∙ zeros-at (n - length l) (j - length l)
-        ∙ sym (List·getD-eq-default l 0 {n = j} a)
 
 -- a byte of a part
 part-byte : (l : List ℕ) (k j : ℕ) → j < 504 → getD (part l k) j 0 ≡ getD l (504 * k + j) 0

@@ -2,6 +2,7 @@
 //! for comparing implementations. They stay close to the edges of what is accepted.
 
 pub mod cases;
+pub mod forms;
 pub mod plans;
 pub mod precedence;
 pub mod rewritings;

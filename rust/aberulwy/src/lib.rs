@@ -3,10 +3,10 @@
 //! The library judges *tables* (2,305 bytes: communication, priority, blocked sets) and
 //! *plans* (postfix words, one byte each), unfolds a plan to a basic one by laws 5 to 32,
 //! records the steps, checks anybody's rewriting by all thirty-two laws, reads, writes and lists
-//! station files, reads plans typed in signs, walks through a basic plan message by message, and
-//! says whether one action comes before another on all its paths. Every call takes slices of any
-//! length; what is malformed is refused with a number and a place, and then nothing lent is
-//! changed. Nothing is allocated.
+//! station files, reads plans typed in signs, walks through a basic plan message by message, says
+//! whether one action comes before another on all its paths, and brings a basic plan to a form that
+//! all basic plans of its tree share. Every call takes slices of any length; what is malformed is refused
+//! with a number and a place, and then nothing lent is changed. Nothing is allocated.
 //!
 //! ```
 //! use aberulwy::{unfold, Ending};
@@ -43,6 +43,9 @@
 //! Before any message, [`precedes`] tells whether a photograph can overtake its weight: whether on
 //! some path of the plan one action comes with none of another before it.
 //!
+//! The choices of a plan can be drawn in many orders. [`fix_form`] brings basic plans that do the
+//! same to the same words, so that comparing their bytes tells whether two of them do.
+//!
 //! A station file holds tables and a plan: [`write_station`] writes it, and [`read_station`] takes
 //! both from it again.
 //!
@@ -51,10 +54,10 @@
 //!
 //! # Stack
 //!
-//! Allow 640 KiB for [`list_station`], 512 KiB for [`unfold`] and [`unfold_checked`], 192 KiB
-//! for [`read_text`], 128 KiB for [`check_rewriting`] and [`walk`], 96 KiB for [`precedes`], and
-//! 64 KiB for each other call; `include/aberulwy.h` has what was measured. The default of a Rust
-//! thread (2 MiB) is enough for all of them.
+//! Allow 640 KiB for [`list_station`], 512 KiB for [`unfold`] and [`unfold_checked`], 256 KiB
+//! for [`fix_form`], 192 KiB for [`read_text`], 128 KiB for [`check_rewriting`] and [`walk`],
+//! 96 KiB for [`precedes`], and 64 KiB for each other call; `include/aberulwy.h` has what was
+//! measured. The default of a Rust thread (2 MiB) is enough for all of them.
 //!
 //! # Linking
 //!
@@ -68,6 +71,7 @@
 
 mod checking;
 pub mod examples;
+mod forms;
 mod judging;
 mod precedence;
 pub mod raw;
@@ -78,6 +82,7 @@ mod unfolding;
 mod walks;
 
 pub use checking::{check_rewriting, Checked, Verdict};
+pub use forms::fix_form;
 pub use judging::{count_orders, is_basic, judge_plan, judge_tables, Counts};
 pub use precedence::{precedes, Precedence};
 pub use refusals::{Place, Refusal};

@@ -280,6 +280,17 @@ mod archive {
             at: *mut usize,
             place: *mut usize,
         ) -> u8;
+
+        pub fn aberulwy_fix_form(
+            tables: *const u8,
+            tables_len: usize,
+            plan: *const u8,
+            plan_len: usize,
+            area: *mut u8,
+            area_len: usize,
+            size: *mut usize,
+            place: *mut usize,
+        ) -> u8;
     }
 }
 
@@ -822,6 +833,45 @@ pub fn precedes(tables: &[u8], plan: &[u8], first: u8, second: u8) -> Preceded {
         number,
         yes,
         at,
+        place,
+    }
+}
+
+/// Brings a basic plan to its fixed form, zeros behind, and answers the form's length: 0; or 1 to 8,
+/// 11 to 14, then 70, then 74 with every lent byte kept.
+///
+/// ```
+/// use aberulwy::raw::{fix_form, Counted};
+///
+/// let (tables, mut area) = (aberulwy::examples::trial_tables(), [7; 6]);
+/// // 2 + 1·(3 + 3): in form 1·3 + 2.
+/// let fixed = fix_form(&tables, &[2, 1, 3, 3, 64, 65, 64], &mut area);
+/// assert_eq!(fixed, Counted { number: 0, value: 5, place: 0 });
+/// assert_eq!(area, [1, 3, 65, 2, 64, 0]);
+/// // A merge is not basic; and an area of one byte for three words.
+/// let refused = |number| Counted { number, value: 0, place: 0 };
+/// assert_eq!(fix_form(&tables, &[1, 2, 66], &mut area), refused(70));
+/// assert_eq!(fix_form(&tables, &[2, 1, 64], &mut area[..1]), refused(74));
+/// assert_eq!(area, [1, 3, 65, 2, 64, 0]);
+/// ```
+pub fn fix_form(tables: &[u8], plan: &[u8], area: &mut [u8]) -> Counted {
+    let (mut value, mut place) = (NOT_SET, NOT_SET);
+    // SAFETY: see the head of this file.
+    let number = unsafe {
+        archive::aberulwy_fix_form(
+            tables.as_ptr(),
+            tables.len(),
+            plan.as_ptr(),
+            plan.len(),
+            area.as_mut_ptr(),
+            area.len(),
+            &mut value,
+            &mut place,
+        )
+    };
+    Counted {
+        number,
+        value,
         place,
     }
 }

@@ -4,13 +4,13 @@
 use crate::plain;
 use reference::plans::{self, Counts};
 use reference::precedence::{self, Precedence};
-use reference::{checking, stations, texts, unfolding, walks, Refusal};
+use reference::{checking, forms, stations, texts, unfolding, walks, Refusal};
 
 /// How a call ended: number, steps, words of the plan reached or read. Of a walk, the last is 1
 /// where a finish is reached, and else 0; of a question whether a plan is basic, 1 where it is. Of
 /// a count, the last two are orders and stuck paths; of a question whether one action comes before
-/// another, 1 for yes and 0 for no, and the place under no; of a station file written, the last is
-/// its bytes; of a judgement, both are 0.
+/// another, 1 for yes and 0 for no, and the place under no; of a fixed form, the last is its words,
+/// and of a station file written, its bytes; of a judgement, both are 0.
 pub type Ended = (u8, usize, usize);
 /// Unfolds: tables, plan, allowance, list, areas A and B.
 pub type Unfold = fn(&[u8], &[u8], u32, &mut [u8], &mut [u8], &mut [u8]) -> Ended;
@@ -27,6 +27,8 @@ pub type Ask = fn(&[u8], &[u8]) -> Ended;
 /// Asks whether one action comes before another: tables, plan, first and second action. It makes no
 /// steps.
 pub type AskOfTwo = fn(&[u8], &[u8], u8, u8) -> Ended;
+/// Brings a plan to its fixed form: tables, plan, form area. It makes no steps.
+pub type Fix = fn(&[u8], &[u8], &mut [u8]) -> Ended;
 /// Writes a station file: tables, plan, file area. It makes no steps.
 pub type WriteFile = fn(&[u8], &[u8], &mut [u8]) -> Ended;
 /// Reads a station file: file, tables area, plan area. It makes no steps.
@@ -53,6 +55,8 @@ pub struct Contender {
     pub count_orders: Ask,
     /// Whether one action comes before another.
     pub precedes: AskOfTwo,
+    /// Its fixed forms.
+    pub fix_form: Fix,
     /// Its writer of station files.
     pub write_station: WriteFile,
     /// Its reader of station files.
@@ -80,6 +84,7 @@ pub const PLAIN: Contender = Contender {
     is_basic: |tables, plan| read(plain::is_basic(tables, plan).map(usize::from)),
     count_orders: |tables, plan| counted(plain::count_orders(tables, plan)),
     precedes: |tables, plan, first, second| preceded(plain::precedes(tables, plan, first, second)),
+    fix_form: |tables, plan, area| read(plain::fix_form(tables, plan, area)),
     write_station: |tables, plan, area| read(plain::write_station(tables, plan, area)),
     read_station: |file, tables_area, plan_area| {
         read(plain::read_station(file, tables_area, plan_area))
@@ -109,6 +114,7 @@ pub const REFERENCE: Contender = Contender {
     precedes: |tables, plan, first, second| {
         preceded(precedence::precedes(tables, plan, first, second))
     },
+    fix_form: |tables, plan, area| read(forms::fix_form(tables, plan, area)),
     write_station: |tables, plan, area| read(stations::write_station(tables, plan, area)),
     read_station: |file, tables_area, plan_area| {
         read(stations::read_station(file, tables_area, plan_area))
@@ -214,6 +220,10 @@ pub const PROVED: Option<Contender> = Some(Contender {
     precedes: |tables, plan, first, second| {
         let answer = aberulwy::raw::precedes(tables, plan, first, second);
         (answer.number, answer.yes, answer.at)
+    },
+    fix_form: |tables, plan, area| {
+        let fixed = aberulwy::raw::fix_form(tables, plan, area);
+        (fixed.number, 0, fixed.value)
     },
     write_station: |tables, plan, area| {
         let written = aberulwy::raw::write_station(tables, plan, area);

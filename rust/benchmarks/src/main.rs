@@ -1,15 +1,15 @@
 //! Prints, as Markdown tables, what a step takes: in the proved library, in an unverified plain
 //! Rust version of the same algorithm, and in Maude; and what a character of a text, a message to
 //! a walk, a judgement of a plan, a count of paths, a question whether one action comes before
-//! another, which the plain version answers by another algorithm, and a block of a station file
-//! take in the first two. Ends at the first call on which the proved library and the plain version
-//! differ.
+//! another, which the plain version answers by another algorithm, a fixed form and a block of a
+//! station file take in the first two. Ends at the first call on which the proved library and the
+//! plain version differ.
 
 use benchmarks::contenders::{PLAIN, PROVED, REFERENCE};
 use benchmarks::maude;
 use benchmarks::measuring::{cell, least_times, mean};
 use benchmarks::workloads::{
-    counts, growing_sums, judgements, merges_in_growing_areas, merges_of_longer_chains,
+    counts, forms, growing_sums, judgements, merges_in_growing_areas, merges_of_longer_chains,
     precedences, single_action, sizes, station_files, sum_tables, texts, walks, Places, Reading,
     Replay, Unfolding, Workload, REPLAYED,
 };
@@ -29,15 +29,15 @@ fn main() {
     );
     println!("plan of one action. Maude: its own report, for one of many reductions of the plan;");
     println!(
-        "rewrites are the equations that it used for one. The last eight tables are of texts, for"
+        "rewrites are the equations that it used for one. The last nine tables are of texts, for"
     );
     println!(
-        "a call and for a character, of messages to walks, judgements of plans, counts of paths"
+        "a call and for a character, of messages to walks, judgements of plans, counts of paths,"
     );
     println!(
-        "and questions whether one action comes before another, for a call and for a word, and of"
+        "questions whether one action comes before another and fixed forms, for a call and for a"
     );
-    println!("station files written and read, for a call and for a block.");
+    println!("word, and of station files written and read, for a call and for a block.");
     match PROVED {
         Some(_) => println!("\nIn each row the proved library and the plain version were first called once each, and\nagreed in every number answered and in every lent byte."),
         None => println!("\nThe proved library is left out: build with `--features archive` to link it."),
@@ -57,6 +57,7 @@ fn main() {
     judged_plans();
     counted_paths();
     preceding_actions();
+    fixed_forms();
     written_files();
     read_files();
 }
@@ -461,6 +462,76 @@ fn preceding_actions() {
     }
     let [call, alone] = ratios.map(|ratios| cell(mean(&ratios)));
     println!("| geometric mean | | | | | {call} | | | | | {alone} |");
+}
+
+fn fixed_forms() {
+    println!("\n### Fixed forms: plans of many shapes\n");
+    println!(
+        "Nanoseconds for the call, which judges tables, plan and whether it is basic, and for a word"
+    );
+    println!(
+        "of the plan; the area is as long as the plan. Form: the words of the form. Judging: what"
+    );
+    println!(
+        "`judge_plan` of the same plan takes in the proved library, and how many times as long its"
+    );
+    println!("call is. Behind the judging the plain version sorts with Rust's own sort.\n");
+    println!(
+        "Crusted coin: the plan that the bench comes to. Action: a plan of one action. Sorted,"
+    );
+    println!(
+        "reversed, shuffled: a sum of different chains of eight actions in these orders. To the"
+    );
+    println!(
+        "right: the shuffled one, grouped to the right. Equal: a sum of equal chains. Deep: a chain"
+    );
+    println!(
+        "of actions. Comb: 2 + 1·(2 + 1·(…)). Doubled: 1·(x + x), where x is the same again. Random:"
+    );
+    println!(
+        "sums and products drawn at random. Actions: a sum of actions drawn at random. Small: a sum"
+    );
+    println!(
+        "of actions and products of two, drawn and grouped at random. Late: a sum of summands of 129"
+    );
+    println!(
+        "words that differ in their last words alone. Halves: 1·x + 1·y, where x and y are the same"
+    );
+    println!(
+        "again and differ in their last words alone. Steep: such summands in such summands, in an"
+    );
+    println!("order in which merging runs has to compare them most. Where 31 actions are named, tables of");
+    println!("31 actions; else those of 4, but for the bench.\n");
+    println!("| plan | words | form | call: proved | plain | proved/plain | a word: proved | plain | judging | call/judging |");
+    println!("|---|--:|--:|--:|--:|--:|--:|--:|--:|--:|");
+    rows_of_forms();
+}
+
+fn rows_of_forms() {
+    let (mut to_plain, mut to_judging) = (Vec::new(), Vec::new());
+    for (cells, mut fixing) in forms() {
+        let (_, _, form) = fixing.run(PLAIN);
+        let call = Times::measure(&cells, &mut fixing);
+        let judging = Times::measure(&cells, &mut fixing.judging()).proved;
+        let each = call.each(fixing.plan.len());
+        let times_judging = call.proved.zip(judging).map(|(call, one)| call / one);
+        println!(
+            "| {cells} | {form} | {} | {} | {} | {} | {} |",
+            call.cells(),
+            cell(each.proved),
+            cell(Some(each.plain)),
+            cell(judging),
+            cell(times_judging),
+        );
+        to_plain.extend(call.ratio());
+        to_judging.extend(times_judging);
+    }
+    let last_row = |name: &str, of: fn(&[f64]) -> Option<f64>| {
+        let (to_plain, to_judging) = (cell(of(&to_plain)), cell(of(&to_judging)));
+        println!("| {name} | | | | | {to_plain} | | | | {to_judging} |");
+    };
+    last_row("geometric mean", mean);
+    last_row("greatest", |ratios| ratios.iter().copied().reduce(f64::max));
 }
 
 /// A table of station files, written or read, with the ratios of its rows: of the calls and of the

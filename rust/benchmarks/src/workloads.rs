@@ -1,5 +1,10 @@
 //! Calls to measure: plans to unfold, rewritings to replay, texts to read, messages to walks, plans
-//! to judge, paths to count, actions to come before others, and station files to write and to read.
+//! to judge, paths to count, actions to come before others, plans to bring to their fixed form, and
+//! station files to write and to read.
+
+mod forms;
+
+pub use forms::{forms, Fixing};
 
 use crate::contenders::{Ask, Contender, Ended, PLAIN};
 use reference::plans::{
@@ -565,6 +570,12 @@ impl Workload for Beginning {
 /// longest basic plans.
 const WALKED: [usize; 3] = [1023, 4095, LONGEST_PLAN - 1];
 
+/// The lengths of long basic plans, doubling from the first of those to the last.
+fn lengths() -> impl Iterator<Item = usize> {
+    let odd = sizes().map(|size| size - 1);
+    odd.filter(|&words| words >= WALKED[0])
+}
+
 /// A station file of the bench, and its first message.
 const BENCH: &[u8] = include_bytes!("../../../examples/bench/crusted-coin.station");
 const SETTLES: u8 = 13;
@@ -845,10 +856,6 @@ pub fn precedences() -> Vec<(String, Preceding)> {
     let (tables, plan) = bench();
     let pairs = [(SETTLES, WEIGHT), (WEIGHT, NEXT_PHOTOGRAPH)];
     let mut asked = Vec::from(yes_and_no("crusted coin", tables, plan, pairs));
-    let lengths = || {
-        let odd = sizes().map(|size| size - 1);
-        odd.filter(|&words| words >= WALKED[0])
-    };
     let deep = lengths().map(|words| ("deep", deep_plan(words)));
     let wide = lengths().map(|words| ("wide", behind_ones(2, wide_plan(words - 4))));
     let random = lengths().map(|words| ("random", behind_ones(1, random_basic_plan(words - 2))));

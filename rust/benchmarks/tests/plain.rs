@@ -4,18 +4,19 @@
 use benchmarks::contenders::{Contender, PLAIN, REFERENCE};
 use benchmarks::plain;
 use benchmarks::workloads::{
-    counts, precedences, station_files, stopped_merges, texts, walks, Unfolding, Workload, MERGES,
-    STOPPED_CHAINS,
+    counts, forms, precedences, station_files, stopped_merges, texts, walks, Unfolding, Workload,
+    MERGES, STOPPED_CHAINS,
 };
 use differential::{compare, Answer, Call, Implementation, Reference};
 use reference::plans::LONGEST_PLAN;
+use reference::random::forms::{form_case, FormFixed};
 use reference::random::stations::{station_case, write_case, StationRead, StationWritten};
 use reference::random::Random;
 use reference::Refusal;
 use std::collections::BTreeSet;
 
-/// The plain version's unfolding, checker, reader of texts, walks, counts, precedence, and writer and
-/// reader of station files; the other calls are the reference's.
+/// The plain version's unfolding, checker, reader of texts, walks, counts, precedence, fixed forms,
+/// and writer and reader of station files; the other calls are the reference's.
 struct Plain;
 
 impl Implementation for Plain {
@@ -44,6 +45,9 @@ impl Implementation for Plain {
             Call::CountOrders(tables, plan) => Answer::paths(plain::count_orders(tables, plan)),
             Call::Precedes(tables, plan, first, second) => {
                 Answer::precedence(plain::precedes(tables, plan, first, second))
+            }
+            Call::FixForm(tables, plan, area) => {
+                Answer::counted(plain::fix_form(tables, plan, area))
             }
             Call::WriteStation(tables, plan, area) => {
                 Answer::counted(plain::write_station(tables, plan, area))
@@ -117,6 +121,19 @@ fn precedences_agree_with_the_reference() {
     }
 }
 
+/// The fixed forms of the benchmark.
+#[test]
+fn forms_agree_with_the_reference() {
+    forms_agree(REFERENCE);
+}
+
+fn forms_agree(contender: Contender) {
+    for (name, mut fixing) in forms() {
+        let same = fixing.outcome(PLAIN) == fixing.outcome(contender);
+        assert!(same, "{name}");
+    }
+}
+
 /// The station files of the benchmark, written and read; and the same calls, refused for their areas.
 #[test]
 fn station_files_agree_with_the_reference() {
@@ -140,6 +157,22 @@ fn station_files_agree(contender: Contender) {
 /// The number of an answer.
 fn number(answer: Result<usize, Refusal>) -> u8 {
     answer.map_or_else(|refusal| refusal.number, |_| 0)
+}
+
+/// Random plans to bring to their form; every refusal is met.
+#[test]
+fn random_plans_have_the_forms_of_the_reference() {
+    let (random, mut numbers) = (&mut Random::new(1), BTreeSet::new());
+    for _ in 0..6000 {
+        let case = form_case(random);
+        let mut area = case.area.clone();
+        let answer = plain::fix_form(&case.tables, &case.plan, &mut area);
+        numbers.insert(number(answer));
+        let same = FormFixed { answer, area } == case.run();
+        assert!(same, "{:?} {:?}", case.tables, case.plan);
+    }
+    let wanted = (0..=8).chain(11..=14).chain([70, 74]);
+    assert_eq!(numbers, wanted.collect());
 }
 
 /// Random files to write; every refusal is met.
@@ -209,6 +242,13 @@ fn precedences_agree_with_the_proved_library() {
     for (name, mut asking) in precedences() {
         assert_eq!(asking.run(PLAIN), asking.run(proved), "{name}");
     }
+}
+
+/// The fixed forms of the benchmark.
+#[cfg(feature = "archive")]
+#[test]
+fn forms_agree_with_the_proved_library() {
+    forms_agree(benchmarks::contenders::PROVED.expect("the archive is linked"));
 }
 
 /// The station files of the benchmark, written and read; and the same calls, refused for their areas.

@@ -1,6 +1,7 @@
 //! Cases: a call with everything handed to it, how cases are drawn, and what comes out.
 
 use crate::answers::Answer;
+use crate::fixing::{FormOfFormCase, TwoFormsCase};
 use crate::implementation::{Call, Implementation};
 use crate::round_trips::{RereadCase, RewriteCase};
 use crate::walking::Walking;
@@ -8,6 +9,7 @@ use reference::plans::{judge_plan, operands, LONGEST_PLAN};
 use reference::random::cases::{
     check_case, own_rewriting_case, tables_and_plan, unfold_case_of, CheckCase, UnfoldCase,
 };
+use reference::random::forms::{form_case, FormCase};
 use reference::random::plans::{basic_plan, plan, repeating_basic_plan};
 use reference::random::precedence::{precedence_case, PrecedenceCase};
 use reference::random::rewritings::{damage_rewriting, derivation};
@@ -21,7 +23,8 @@ use reference::random::Random;
 use reference::stations::{program, station_file};
 use reference::tables::trial_tables;
 
-/// One call, with everything handed to it; or the calls of one walk, or of one round trip.
+/// One call, with everything handed to it; or the calls of one walk, of one round trip, or of two
+/// forms.
 #[derive(Clone, Debug)]
 pub enum Case {
     /// Tables to judge.
@@ -61,6 +64,12 @@ pub enum Case {
     Messages(MessagesCase),
     /// Two actions, of which the first is to come before the second in a plan.
     Precedes(PrecedenceCase),
+    /// A plan to bring to its fixed form.
+    FixForm(FormCase),
+    /// A plan to bring to its fixed form, and the form to bring to its own.
+    FormOfForm(FormOfFormCase),
+    /// Two plans to bring to their fixed forms.
+    TwoForms(TwoFormsCase),
 }
 
 /// What is handed to the unfolding with a check.
@@ -137,7 +146,7 @@ impl Case {
     /// The case of this seed.
     pub fn draw(seed: u64) -> Case {
         let random = &mut Random::new(seed);
-        match random.below(33) {
+        match random.below(36) {
             0 => Case::JudgeTables(any_tables(random)),
             1 | 2 => {
                 let (tables, plan) = handed_in(random);
@@ -170,11 +179,14 @@ impl Case {
             26 | 27 => Case::Messages(messages_case(random)),
             28 | 29 => Case::Precedes(precedence_case(random)),
             30 | 31 => Case::WriteStation(write_case(random)),
-            _ => round_trip(random),
+            32 => round_trip(random),
+            33 | 34 => Case::FixForm(form_case(random)),
+            _ => two_forms(random),
         }
     }
 
-    /// Makes the call, or the calls of a walk or of a round trip, leaving the case as it is.
+    /// Makes the call, or the calls of a walk, of a round trip or of two forms, leaving the case as it
+    /// is.
     pub fn run(&self, implementation: &impl Implementation) -> Outcome {
         match self {
             Case::FreshWalk(case) => Walking::before(case).begin(implementation),
@@ -182,11 +194,13 @@ impl Case {
             Case::Messages(case) => Walking::before(&case.fresh).follow(implementation, case),
             Case::Reread(case) => case.run(implementation),
             Case::Rewrite(case) => case.run(implementation),
+            Case::FormOfForm(case) => case.run(implementation),
+            Case::TwoForms(case) => case.run(implementation),
             _ => self.make_call(implementation),
         }
     }
 
-    /// Makes the one call of a case that is no walk and no round trip.
+    /// Makes the one call of a case that has one and is no walk.
     fn make_call(&self, implementation: &impl Implementation) -> Outcome {
         let mut lent: Vec<Vec<u8>> = self.lent().into_iter().cloned().collect();
         let call = match (self, &mut lent[..]) {
@@ -227,6 +241,7 @@ impl Case {
             (Case::Precedes(case), _) => {
                 Call::Precedes(&case.tables, &case.plan, case.first, case.second)
             }
+            (Case::FixForm(case), [area]) => Call::FixForm(&case.tables, &case.plan, area),
             _ => unreachable!("each case lends what its call takes"),
         };
         let answer = implementation.answer(call);
@@ -253,6 +268,7 @@ impl Case {
             Case::Reached(case) => vec![&case.plan],
             Case::ListStation(case) => vec![&case.out],
             Case::ReadText(case) => vec![&case.plan],
+            Case::FixForm(case) => vec![&case.area],
             _ => Vec::new(),
         }
     }
@@ -353,6 +369,17 @@ fn round_trip(random: &mut Random) -> Case {
         Some(case) => Case::Rewrite(case),
         None => Case::ReadStation(reading),
     }
+}
+
+/// A plan brought to its form, and then that form or another plan; where no form is made, the first
+/// call alone.
+fn two_forms(random: &mut Random) -> Case {
+    let fixing = form_case(random);
+    let both = match random.once_in(3) {
+        true => FormOfFormCase::of(random, &fixing).map(Case::FormOfForm),
+        false => TwoFormsCase::of(random, &fixing).map(Case::TwoForms),
+    };
+    both.unwrap_or(Case::FixForm(fixing))
 }
 
 /// An unfolding, and areas for the check that are mostly as long as its own.

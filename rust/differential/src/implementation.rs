@@ -2,7 +2,7 @@
 
 use crate::answers::Answer;
 use reference::{
-    checking, own, plans, precedence, runs, stations, tables, texts, unfolding, walks,
+    checking, forms, own, plans, precedence, runs, stations, tables, texts, unfolding, walks,
 };
 
 /// One call, with what is handed to it in the order of its parameters. It may change what is
@@ -64,6 +64,8 @@ pub enum Call<'c> {
     /// Whether one action precedes another: tables, plan, first and second action; answers 1 for
     /// yes and 0 for no, and the place under no.
     Precedes(&'c [u8], &'c [u8], u8, u8),
+    /// Brings a plan to its fixed form: tables, plan, form area; answers the form's size.
+    FixForm(&'c [u8], &'c [u8], &'c mut [u8]),
 }
 
 /// Whatever answers all calls. One that has only some of them hands the others on to another one.
@@ -127,6 +129,9 @@ impl Implementation for Reference {
             Call::Precedes(tables, plan, first, second) => {
                 Answer::precedence(precedence::precedes(tables, plan, first, second))
             }
+            Call::FixForm(tables, plan, area) => {
+                Answer::counted(forms::fix_form(tables, plan, area))
+            }
         }
     }
 }
@@ -176,6 +181,7 @@ impl Implementation for Proved {
             Call::Precedes(tables, plan, first, second) => {
                 raw::precedes(tables, plan, first, second).into()
             }
+            Call::FixForm(tables, plan, area) => raw::fix_form(tables, plan, area).into(),
         }
     }
 }

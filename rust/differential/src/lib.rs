@@ -10,6 +10,7 @@
 mod answers;
 mod cases;
 mod compare;
+mod fixing;
 mod implementation;
 mod printing;
 mod round_trips;
@@ -19,6 +20,7 @@ mod walking;
 pub use answers::Answer;
 pub use cases::{Case, CheckedCase, ListCase, Outcome, ReachedCase};
 pub use compare::{compare, Agreement, Difference};
+pub use fixing::{FormOfFormCase, TwoFormsCase};
 #[cfg(feature = "archive")]
 pub use implementation::Proved;
 pub use implementation::{Call, Implementation, Reference};

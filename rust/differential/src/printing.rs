@@ -3,6 +3,7 @@
 use crate::cases::{Case, Outcome};
 use crate::compare::{Agreement, Difference};
 use reference::random::cases::UnfoldCase;
+use reference::random::forms::FormCase;
 use reference::random::stations::{StationCase, WriteCase};
 use reference::random::walks::FreshWalkCase;
 use std::fmt;
@@ -109,6 +110,16 @@ impl fmt::Display for Case {
                 judged(f, "precedes", &case.tables, &case.plan)?;
                 writeln!(f, "  first: {}, second: {}", case.first, case.second)
             }
+            Case::FixForm(case) => fixing(f, "fix_form", case),
+            Case::FormOfForm(case) => {
+                fixing(f, "fix_form, then fix_form of the form", &case.fixing)?;
+                writeln!(f, "  second form area: {}", Bytes(&case.area))
+            }
+            Case::TwoForms(case) => {
+                fixing(f, "fix_form, then fix_form of a second plan", &case.fixing)?;
+                writeln!(f, "  second plan: {}", Bytes(&case.plan))?;
+                writeln!(f, "  second form area: {}", Bytes(&case.area))
+            }
         }
     }
 }
@@ -135,6 +146,11 @@ fn read_areas(f: &mut fmt::Formatter<'_>, tables: &[u8], plan: &[u8]) -> fmt::Re
 fn writing(f: &mut fmt::Formatter<'_>, calls: &str, case: &WriteCase) -> fmt::Result {
     judged(f, calls, &case.tables, &case.plan)?;
     writeln!(f, "  file area: {}", Bytes(&case.area))
+}
+
+fn fixing(f: &mut fmt::Formatter<'_>, calls: &str, case: &FormCase) -> fmt::Result {
+    judged(f, calls, &case.tables, &case.plan)?;
+    writeln!(f, "  form area: {}", Bytes(&case.area))
 }
 
 fn fresh_walk(f: &mut fmt::Formatter<'_>, calls: &str, case: &FreshWalkCase) -> fmt::Result {

@@ -94,7 +94,7 @@ impl RewriteCase {
 
 /// The first so many bytes of a slice that a call left, or all that there are; none where the call
 /// was refused.
-fn first_part(outcome: &Outcome, slice: usize, length: usize) -> Option<Vec<u8>> {
+pub(crate) fn first_part(outcome: &Outcome, slice: usize, length: usize) -> Option<Vec<u8>> {
     let left = &outcome.lent[slice];
     (outcome.answer.number == 0).then(|| left[..left.len().min(length)].to_vec())
 }

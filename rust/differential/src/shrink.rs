@@ -1,9 +1,12 @@
 //! Making a case smaller while it keeps what makes it interesting.
 
 use crate::cases::{Case, CheckedCase, ListCase, ReachedCase};
+use crate::fixing::{FormOfFormCase, TwoFormsCase};
 use crate::round_trips::{RereadCase, RewriteCase};
-use reference::plans::{judge, operands, subplan, LONGEST_PLAN};
+use reference::forms::form;
+use reference::plans::{is_basic, judge, operands, subplan, LONGEST_PLAN};
 use reference::random::cases::{CheckCase, UnfoldCase};
+use reference::random::forms::FormCase;
 use reference::random::precedence::PrecedenceCase;
 use reference::random::stations::{file_length, StationCase, WriteCase};
 use reference::random::texts::TextCase;
@@ -60,6 +63,9 @@ fn smaller(case: &Case) -> Vec<Case> {
         Case::Walk(case) => smaller_walks(case),
         Case::Messages(case) => smaller_messages(case),
         Case::Precedes(case) => smaller_precedences(case),
+        Case::FixForm(case) => each(smaller_fixings(case), Case::FixForm),
+        Case::FormOfForm(case) => smaller_forms_of_forms(case),
+        Case::TwoForms(case) => smaller_two_forms(case),
     };
     found.retain(|case| weight(case) < size);
     found
@@ -104,6 +110,12 @@ fn weight(case: &Case) -> u64 {
         Case::Precedes(case) => {
             bytes(&[&case.tables, &case.plan]) + u64::from(case.first) + u64::from(case.second)
         }
+        Case::FixForm(case) => fixing_weight(case),
+        // One more for the second call.
+        Case::FormOfForm(case) => fixing_weight(&case.fixing) + unlike(&[&case.area]) + 1,
+        Case::TwoForms(case) => {
+            fixing_weight(&case.fixing) + bytes(&[&case.plan]) + unlike(&[&case.area]) + 1
+        }
     }
 }
 
@@ -113,6 +125,11 @@ fn reading_weight(case: &StationCase) -> u64 {
 }
 
 fn writing_weight(case: &WriteCase) -> u64 {
+    let bytes = [&case.tables, &case.plan].map(|slice| 4 * slice.len() + set(slice));
+    bytes.iter().sum::<usize>() as u64 + unlike(&[&case.area])
+}
+
+fn fixing_weight(case: &FormCase) -> u64 {
     let bytes = [&case.tables, &case.plan].map(|slice| 4 * slice.len() + set(slice));
     bytes.iter().sum::<usize>() as u64 + unlike(&[&case.area])
 }
@@ -331,7 +348,7 @@ fn smaller_writings(case: &WriteCase) -> Vec<WriteCase> {
             case.plan = plan;
         })
         .with(plans, |case, plan| case.plan = plan)
-        .with(smaller_file_areas(&case.area, length), |case, area| {
+        .with(smaller_written(&case.area, length), |case, area| {
             case.area = area
         })
         .with(smaller_tables(&case.tables), |case, tables| {
@@ -360,10 +377,71 @@ fn smaller_rewrites(case: &RewriteCase) -> Vec<Case> {
             case.reading = reading;
         })
         .with(readings, |case, reading| case.reading = reading)
-        .with(smaller_file_areas(&case.area, length), |case, area| {
+        .with(smaller_written(&case.area, length), |case, area| {
             case.area = area
         });
     each(changed.found, Case::Rewrite)
+}
+
+/// A shorter plan mostly has a form that is as much shorter, or the same one.
+fn smaller_fixings(case: &FormCase) -> Vec<FormCase> {
+    let (plans, words) = (smaller_plans(&case.plan), case.plan.len());
+    let length = form_of(&case.plan).map_or(words, |form| form.len());
+    Changed::of(case)
+        .with(plans.clone(), |case, plan| {
+            shorten(&mut case.area, words, plan.len());
+            case.plan = plan;
+        })
+        .with(plans, |case, plan| case.plan = plan)
+        .with(smaller_written(&case.area, length), |case, area| {
+            case.area = area
+        })
+        .with(smaller_tables(&case.tables), |case, tables| {
+            case.tables = tables
+        })
+        .found
+}
+
+/// The form of a plan that has one.
+fn form_of(plan: &[u8]) -> Option<Vec<u8>> {
+    let basic = judge(&any_actions(), plan).is_ok() && is_basic(plan);
+    basic.then(|| form(plan))
+}
+
+/// One of the two calls alone, or both with a part made smaller.
+fn smaller_forms_of_forms(case: &FormOfFormCase) -> Vec<Case> {
+    let mut alone = vec![case.fixing.clone()];
+    alone.extend(form_of(&case.fixing.plan).map(|plan| FormCase {
+        tables: case.fixing.tables.clone(),
+        plan,
+        area: case.area.clone(),
+    }));
+    let changed = Changed::of(case)
+        .with(smaller_fixings(&case.fixing), |case, fixing| {
+            case.fixing = fixing
+        })
+        .with(smaller_lent(&case.area), |case, area| case.area = area);
+    let mut found = each(alone, Case::FixForm);
+    found.extend(each(changed.found, Case::FormOfForm));
+    found
+}
+
+/// One of the two calls alone, or both with a part made smaller.
+fn smaller_two_forms(case: &TwoFormsCase) -> Vec<Case> {
+    let second = FormCase {
+        tables: case.fixing.tables.clone(),
+        plan: case.plan.clone(),
+        area: case.area.clone(),
+    };
+    let changed = Changed::of(case)
+        .with(smaller_fixings(&case.fixing), |case, fixing| {
+            case.fixing = fixing
+        })
+        .with(smaller_plans(&case.plan), |case, plan| case.plan = plan)
+        .with(smaller_lent(&case.area), |case, area| case.area = area);
+    let mut found = each(vec![case.fixing.clone(), second], Case::FixForm);
+    found.extend(each(changed.found, Case::TwoForms));
+    found
 }
 
 /// Nothing, a half, a record's bytes less, one less.
@@ -409,16 +487,17 @@ fn smaller_lent(lent: &[u8]) -> Vec<Vec<u8>> {
     found
 }
 
-/// Takes from an area what a file gets shorter, so that it stays as much too long or too short.
+/// Makes an area shorter by as much as what is to be written into it, so that it stays as much too
+/// long or too short.
 fn shorten(area: &mut Vec<u8>, before: usize, after: usize) {
     let less = before.saturating_sub(after);
     area.truncate(area.len().saturating_sub(less));
 }
 
-/// An area as long as a file of this length, one byte longer and one shorter; and those of other
-/// lent slices.
-fn smaller_file_areas(area: &[u8], file: usize) -> Vec<Vec<u8>> {
-    let near = [file, file + 1, file.saturating_sub(1)].into_iter();
+/// An area as long as what is to be written, which has this length, one byte longer and one shorter;
+/// and those of other lent slices.
+fn smaller_written(area: &[u8], length: usize) -> Vec<Vec<u8>> {
+    let near = [length, length + 1, length.saturating_sub(1)].into_iter();
     let shorter = near.filter(|&length| length < area.len());
     let mut found: Vec<Vec<u8>> = shorter.map(|length| area[..length].to_vec()).collect();
     found.extend(smaller_lent(area));

@@ -1,14 +1,19 @@
 //! The comparison finds damage: copies of the reference, each with one thing changed.
 
 use differential::{compare, Answer, Call, Case, Implementation, Outcome, Reference};
+use reference::forms::form;
 use reference::plans::{counts, is_basic, starts, subplan};
 use reference::precedence::Precedence;
+use reference::random::forms::FormCase;
 use reference::random::precedence::PrecedenceCase;
 use reference::random::stations::WriteCase;
 use reference::random::Random;
 use reference::reading::paths_of;
 use reference::stations::{put_sum, put_word, station_file};
-use std::collections::{BTreeMap, BTreeSet};
+use reference::trees::alike;
+use std::cmp::Ordering;
+use std::collections::{BTreeMap, BTreeSet, VecDeque};
+use std::ops::Range;
 
 /// What is changed in a copy.
 #[derive(Clone, Copy, Debug, PartialEq, Eq)]
@@ -211,11 +216,81 @@ enum Damage {
     WriteRefused,
     /// Where the area is too short, its length is the place.
     WritePlace,
+    /// Equal summands are kept.
+    FormDuplicates,
+    /// Summands are reduced to one where they stand side by side, before they are put in order.
+    FormNeighbours,
+    /// Summands stay in the order in which they are given.
+    FormUnsorted,
+    /// Summands stand in descending order.
+    FormDescending,
+    /// A summand with fewer words goes first.
+    FormLength,
+    /// A longer summand goes first where a shorter one begins it.
+    FormLonger,
+    /// Summands are compared by their first bytes alone.
+    FormFirst,
+    /// Summands are compared by their first four bytes alone, and are equal where these are.
+    FormPrefix,
+    /// Summands are compared from their last bytes on.
+    FormLast,
+    /// Sums group to the right.
+    FormRight,
+    /// A sum on the right of another is taken for one summand.
+    FormGroups,
+    /// The outermost sum alone is brought to form.
+    FormOutermost,
+    /// The remainders alone are brought to form.
+    FormInside,
+    /// Summands are compared as they are given, and then their remainders are brought to form.
+    FormOutsideFirst,
+    /// A sum of more than 4,096 words stays in the order in which it is given.
+    FormLong,
+    /// A sum has 31 summands at most, as many as there are actions; those behind are left out.
+    FormWide,
+    /// a·(x + y) is taken for a·x + a·y.
+    FormShared,
+    /// a·δ is taken for a.
+    FormDeadEnd,
+    /// a·δ is taken for δ.
+    FormDeadStop,
+    /// Dead stop alone is not basic.
+    FormAlone,
+    /// The size that is told is the plan's.
+    FormSize,
+    /// The size is told in one byte.
+    FormByte,
+    /// The area is not cleared behind the form.
+    FormBehind,
+    /// An area of exactly the form's length is too short for it.
+    FormRoom,
+    /// An area shorter than the plan is too short for the form.
+    FormAsLong,
+    /// An area one byte too short takes the form without its last byte.
+    FormShort,
+    /// The area is cleared where it is too short.
+    FormKeeping,
+    /// The area is cleared where the plan is not basic.
+    FormNotBasic,
+    /// An area shorter than the plan counts before a plan that is not basic.
+    FormOrder,
+    /// The numbers 70 and 74 are exchanged.
+    FormExchanged,
+    /// A plan that is left over counts as one that is not basic.
+    FormFault,
+    /// An empty area counts before the plan's own faults.
+    FormPlan,
+    /// An empty area counts before the tables.
+    FormTables,
+    /// The size is not set where the call is refused.
+    FormRefused,
+    /// Where the area is too short, the form's length is the place.
+    FormPlace,
 }
 
 use Damage::*;
 
-const ALL: [Damage; 98] = [
+const ALL: [Damage; 133] = [
     MostActions,
     TripleWeight,
     LongestPlan,
@@ -314,6 +389,41 @@ const ALL: [Damage; 98] = [
     WriteTables,
     WriteRefused,
     WritePlace,
+    FormDuplicates,
+    FormNeighbours,
+    FormUnsorted,
+    FormDescending,
+    FormLength,
+    FormLonger,
+    FormFirst,
+    FormPrefix,
+    FormLast,
+    FormRight,
+    FormGroups,
+    FormOutermost,
+    FormInside,
+    FormOutsideFirst,
+    FormLong,
+    FormWide,
+    FormShared,
+    FormDeadEnd,
+    FormDeadStop,
+    FormAlone,
+    FormSize,
+    FormByte,
+    FormBehind,
+    FormRoom,
+    FormAsLong,
+    FormShort,
+    FormKeeping,
+    FormNotBasic,
+    FormOrder,
+    FormExchanged,
+    FormFault,
+    FormPlan,
+    FormTables,
+    FormRefused,
+    FormPlace,
 ];
 
 /// The reference with damage.
@@ -842,6 +952,217 @@ impl Damaged {
         }
         answer
     }
+
+    fn fix_form(&self, tables: &[u8], plan: &[u8], area: &mut [u8]) -> Answer {
+        let before = area.to_vec();
+        let mut answer = Reference.answer(Call::FixForm(tables, plan, area));
+        let (size, room) = (answer.values[0], before.len());
+        let turned_back = match (self.0, answer.number) {
+            (FormAlone, 0 | 74) if plan == [0] => Some(70),
+            (FormRoom, 0) if size == room => Some(74),
+            (FormAsLong, 0) if room < plan.len() => Some(74),
+            (FormOrder, 70) if room < plan.len() => Some(74),
+            (FormExchanged, 70) => Some(74),
+            (FormExchanged, 74) => Some(70),
+            (FormFault, 14) => Some(70),
+            (FormPlan, 11..=14) if room == 0 => Some(74),
+            (FormTables, 1..=8) if room == 0 => Some(74),
+            _ => None,
+        };
+        if let Some(number) = turned_back {
+            area.copy_from_slice(&before);
+            return refusal(number);
+        }
+        match (self.0, answer.number) {
+            (FormSize, 0) => answer.values[0] = plan.len(),
+            (FormByte, 0) => answer.values[0] %= 256,
+            (FormBehind, 0) => area[size..].copy_from_slice(&before[size..]),
+            (FormShort, 74) => {
+                let form = form(plan);
+                if room + 1 == form.len() {
+                    area.copy_from_slice(&form[..room]);
+                    return Answer::ended(0, [form.len(), 0]);
+                }
+            }
+            (FormKeeping, 74) | (FormNotBasic, 70) => area.fill(0),
+            (FormRefused, 1..) => answer.values[0] = usize::MAX,
+            (FormPlace, 74) => answer.place = form(plan).len(),
+            (_, 0 | 74) if self.makes_forms() => {
+                area.copy_from_slice(&before);
+                let form = self.form(plan);
+                if room < form.len() {
+                    return refusal(74);
+                }
+                area[..form.len()].copy_from_slice(&form);
+                area[form.len()..].fill(0);
+                return Answer::ended(0, [form.len(), 0]);
+            }
+            _ => {}
+        }
+        answer
+    }
+
+    /// Whether the damaged copy makes forms in a way of its own.
+    fn makes_forms(&self) -> bool {
+        matches!(
+            self.0,
+            FormDuplicates
+                | FormNeighbours
+                | FormUnsorted
+                | FormDescending
+                | FormLength
+                | FormLonger
+                | FormFirst
+                | FormPrefix
+                | FormLast
+                | FormRight
+                | FormGroups
+                | FormOutermost
+                | FormInside
+                | FormOutsideFirst
+                | FormLong
+                | FormWide
+                | FormShared
+                | FormDeadEnd
+                | FormDeadStop
+        )
+    }
+
+    /// The form that the damaged copy makes of a basic plan.
+    fn form(&self, plan: &[u8]) -> Vec<u8> {
+        let starts = starts(plan);
+        let mut waiting: Vec<VecDeque<Summand>> = Vec::new();
+        for (place, &word) in plan.iter().enumerate() {
+            let mut operand = || waiting.pop().expect("an accepted plan has the operands");
+            let given = starts[place]..place + 1;
+            let summands = match word {
+                64 => {
+                    let (y, x) = (operand(), operand());
+                    self.both(plan, x, y)
+                }
+                65 => {
+                    let (x, _) = (operand(), operand());
+                    self.product(plan, given, x)
+                }
+                _ => VecDeque::from([Summand {
+                    given,
+                    form: vec![word],
+                }]),
+            };
+            waiting.push(summands);
+        }
+        let whole = waiting.pop().expect("an accepted plan is not empty");
+        self.sum(plan, whole, true)
+    }
+
+    /// The summands of x + y.
+    fn both(
+        &self,
+        plan: &[u8],
+        mut x: VecDeque<Summand>,
+        mut y: VecDeque<Summand>,
+    ) -> VecDeque<Summand> {
+        if self.0 == FormGroups && y.len() > 1 {
+            let given = y[0].given.start..y[y.len() - 1].given.end;
+            let form = self.sum(plan, y, false);
+            y = VecDeque::from([Summand { given, form }]);
+        }
+        // The fewer are put to the others, as a long sum would else take long.
+        if x.len() < y.len() {
+            x.into_iter()
+                .rev()
+                .for_each(|summand| y.push_front(summand));
+            return y;
+        }
+        x.extend(y);
+        x
+    }
+
+    /// The summands of a·x: one, where nothing is damaged.
+    fn product(&self, plan: &[u8], given: Range<usize>, x: VecDeque<Summand>) -> VecDeque<Summand> {
+        let action = plan[given.start];
+        let before = |x: Vec<u8>| Summand {
+            given: given.clone(),
+            form: [vec![action], x, vec![65]].concat(),
+        };
+        match self.0 {
+            // Of a long plan the form would be much longer.
+            FormShared if plan.len() < 100 => x.into_iter().map(|x| before(x.form)).collect(),
+            FormDeadEnd | FormDeadStop if x[0].form == [0] => {
+                let form = match self.0 {
+                    FormDeadEnd => vec![action],
+                    _ => vec![0],
+                };
+                VecDeque::from([Summand { given, form }])
+            }
+            _ => VecDeque::from([before(self.sum(plan, x, false))]),
+        }
+    }
+
+    /// The sum of these summands.
+    fn sum(&self, plan: &[u8], summands: VecDeque<Summand>, outermost: bool) -> Vec<u8> {
+        let mut summands = Vec::from(summands);
+        let words: usize = summands.iter().map(|summand| summand.form.len() + 1).sum();
+        let left_as_given = match self.0 {
+            FormOutermost => !outermost,
+            FormInside => outermost,
+            FormLong => words > 4096,
+            _ => false,
+        };
+        if !left_as_given {
+            if self.0 == FormNeighbours {
+                summands.dedup_by(|y, x| x.form == y.form);
+            }
+            summands.sort_by(|x, y| self.order(plan, x, y));
+            match self.0 {
+                FormDuplicates | FormNeighbours => {}
+                FormPrefix | FormOutsideFirst => {
+                    summands.dedup_by(|y, x| self.order(plan, x, y).is_eq());
+                }
+                _ => summands.dedup_by(|y, x| x.form == y.form),
+            }
+        }
+        if self.0 == FormWide {
+            summands.truncate(31);
+        }
+        let signs = summands.len() - 1;
+        let mut sum = Vec::new();
+        for (index, summand) in summands.into_iter().enumerate() {
+            sum.extend(summand.form);
+            if index > 0 && self.0 != FormRight {
+                sum.push(64);
+            }
+        }
+        if self.0 == FormRight {
+            sum.resize(sum.len() + signs, 64);
+        }
+        sum
+    }
+
+    /// How the damaged copy compares two summands.
+    fn order(&self, plan: &[u8], x: &Summand, y: &Summand) -> Ordering {
+        let given = |summand: &Summand| summand.given.clone().map(|place| plan[place]);
+        let (low, high) = (&x.form, &y.form);
+        match self.0 {
+            FormUnsorted => Ordering::Equal,
+            FormDescending => high.cmp(low),
+            FormLength => (low.len(), low).cmp(&(high.len(), high)),
+            FormLonger if low.starts_with(high) || high.starts_with(low) => {
+                high.len().cmp(&low.len())
+            }
+            FormFirst => low[0].cmp(&high[0]),
+            FormPrefix => low.iter().take(4).cmp(high.iter().take(4)),
+            FormLast => low.iter().rev().cmp(high.iter().rev()),
+            FormOutsideFirst => given(x).cmp(given(y)),
+            _ => low.cmp(high),
+        }
+    }
+}
+
+/// A summand on the way to a form: where its words are in the plan that is given, and its form.
+struct Summand {
+    given: Range<usize>,
+    form: Vec<u8>,
 }
 
 /// The bytes of a plan's station file.
@@ -905,6 +1226,7 @@ impl Implementation for Damaged {
             Call::Precedes(tables, plan, first, second) => {
                 self.precedes(tables, plan, first, second)
             }
+            Call::FixForm(tables, plan, area) => self.fix_form(tables, plan, area),
         }
     }
 }
@@ -921,10 +1243,26 @@ fn an_undamaged_copy_agrees() {
     }
 }
 
+/// What the copies change is the one thing that their damage says: the forms are made as they should
+/// be where nothing is damaged.
+#[test]
+fn an_undamaged_copy_makes_forms() {
+    let mut made = 0;
+    for seed in 0..8000 {
+        let case = Case::draw(seed);
+        if let (Case::FixForm(fixing), 0 | 74) = (&case, case.run(&Reference).answer.number) {
+            let form = form(&fixing.plan);
+            assert!(Damaged(Nothing).form(&fixing.plan) == form, "{seed}");
+            made += 1;
+        }
+    }
+    assert!(made > 300, "{made}");
+}
+
 #[test]
 fn every_damage_is_found() {
     for damage in ALL {
-        let found = compare(&Reference, &Damaged(damage), 40_000, 3);
+        let found = compare(&Reference, &Damaged(damage), 40_000, 4);
         let difference = found.expect_err(&format!("{damage:?} is found"));
         assert_ne!(difference.first, difference.second, "{damage:?}");
     }
@@ -978,7 +1316,7 @@ fn a_text_is_made_small_and_printed() {
 
 #[test]
 fn a_walk_is_made_small_and_printed() {
-    let difference = compare(&Reference, &Damaged(WalkBranch), 10_000, 24).unwrap_err();
+    let difference = compare(&Reference, &Damaged(WalkBranch), 10_000, 26).unwrap_err();
     let Case::Walk(case) = &difference.case else {
         panic!("{difference}");
     };
@@ -1011,7 +1349,7 @@ fn a_walk_is_made_small_and_printed() {
 
 #[test]
 fn a_precedence_is_made_small_and_printed() {
-    let difference = compare(&Reference, &Damaged(BeforeGreatest), 10_000, 2).unwrap_err();
+    let difference = compare(&Reference, &Damaged(BeforeGreatest), 10_000, 9).unwrap_err();
     let Case::Precedes(case) = &difference.case else {
         panic!("{difference}");
     };
@@ -1022,7 +1360,7 @@ fn a_precedence_is_made_small_and_printed() {
     assert!(printed.contains("  first: number 0, values [0, 0], place 0\n"));
     assert!(printed.contains("  second: number 0, values [0, 1], place 0\n"));
     // A plan as long as can be needs few of its words.
-    let difference = compare(&Reference, &Damaged(BeforeEnd), 10_000, 29).unwrap_err();
+    let difference = compare(&Reference, &Damaged(BeforeEnd), 10_000, 58).unwrap_err();
     let (drawn, small) = (Case::draw(difference.seed), &difference.case);
     let (Case::Precedes(drawn), Case::Precedes(small)) = (&drawn, small) else {
         panic!("{difference}");
@@ -1033,12 +1371,12 @@ fn a_precedence_is_made_small_and_printed() {
 #[test]
 fn a_writing_is_made_small_and_printed() {
     // A plan of many blocks needs one of its words, and the area stays one byte too short.
-    let difference = compare(&Reference, &Damaged(WriteShort), 10_000, 3).unwrap_err();
+    let difference = compare(&Reference, &Damaged(WriteShort), 10_000, 14).unwrap_err();
     let (drawn, small) = (Case::draw(difference.seed), &difference.case);
     let (Case::WriteStation(drawn), Case::WriteStation(small)) = (&drawn, small) else {
         panic!("{difference}");
     };
-    assert_eq!((drawn.plan.len(), drawn.area.len()), (16_128, 18_943));
+    assert_eq!((drawn.plan.len(), drawn.area.len()), (16_384, 19_455));
     assert_eq!((&small.plan[..], small.area.len()), (&[0][..], 3071));
     let printed = difference.to_string();
     assert!(printed.starts_with("difference in the case of seed "));
@@ -1053,7 +1391,7 @@ fn a_writing_is_made_small_and_printed() {
 
 #[test]
 fn a_round_trip_is_made_small_and_printed() {
-    let difference = compare(&Reference, &Damaged(WriteRoom), 10_000, 3).unwrap_err();
+    let difference = compare(&Reference, &Damaged(WriteRoom), 10_000, 2).unwrap_err();
     let Case::Reread(case) = &difference.case else {
         panic!("{difference}");
     };
@@ -1065,17 +1403,60 @@ fn a_round_trip_is_made_small_and_printed() {
     let printed = difference.to_string();
     assert!(printed.contains("write_station, then read_station\n"));
     assert!(printed.contains("  second: number 74, "), "{printed}");
-    // A file as long as can be needs six blocks.
-    let difference = compare(&Reference, &Damaged(WriteRoom), 10_000, 10).unwrap_err();
+    // Of a file of 22 blocks six are enough.
+    let difference = compare(&Reference, &Damaged(WriteRoom), 10_000, 13).unwrap_err();
     let (drawn, small) = (Case::draw(difference.seed), &difference.case);
     let (Case::Rewrite(drawn), Case::Rewrite(small)) = (&drawn, small) else {
         panic!("{difference}");
     };
     let lengths = [drawn, small].map(|case| (case.reading.file.len(), case.area.len()));
-    assert_eq!(lengths, [(19_456, 19_456), (3072, 3072)], "{difference}");
+    assert_eq!(lengths, [(11_264, 11_264), (3072, 3072)], "{difference}");
     let printed = difference.to_string();
     assert!(printed.contains("read_station, then write_station\n"));
     assert!(printed.contains("  file area: [255; 3072]\n"), "{printed}");
+}
+
+#[test]
+fn a_form_is_made_small_and_printed() {
+    let difference = compare(&Reference, &Damaged(FormUnsorted), 10_000, 11).unwrap_err();
+    let Case::FixForm(case) = &difference.case else {
+        panic!("{difference}");
+    };
+    assert_eq!((case.plan.len(), case.area.len()), (3, 3), "{difference}");
+    let printed = difference.to_string();
+    assert!(printed.contains("fix_form\n  tables: "), "{printed}");
+    assert!(printed.contains("  plan: [2, 1, 64]\n  form area: [255, 255, 255]\n"));
+    assert!(printed.contains("  first: number 0, values [3, 0], place 0\n    [1, 2, 64]\n"));
+    assert!(printed.contains("  second: number 0, values [3, 0], place 0\n    [2, 1, 64]\n"));
+    // Of a plan as long as can be few words are enough, and of two calls one: three summands for
+    // the groups of a sum.
+    for seed in [24, 17, 51] {
+        let difference = compare(&Reference, &Damaged(FormRight), 10_000, seed).unwrap_err();
+        let drawn = match Case::draw(difference.seed) {
+            Case::FixForm(case) => case,
+            Case::FormOfForm(case) => case.fixing,
+            Case::TwoForms(case) => case.fixing,
+            _ => panic!("{difference}"),
+        };
+        let Case::FixForm(small) = &difference.case else {
+            panic!("{difference}");
+        };
+        assert_eq!(drawn.plan.len(), 16_383, "{difference}");
+        assert_eq!((small.plan.len(), small.area.len()), (5, 5), "{difference}");
+    }
+}
+
+#[test]
+fn two_forms_are_printed() {
+    let drawn = |is_wanted: fn(&Case) -> bool| (0..).map(Case::draw).find(is_wanted).unwrap();
+    let of_form = drawn(|case| matches!(case, Case::FormOfForm(_))).to_string();
+    assert!(of_form.starts_with("fix_form, then fix_form of the form\n  tables: "));
+    assert_eq!(of_form.lines().count(), 5, "{of_form}");
+    assert!(of_form.contains("\n  second form area: ["), "{of_form}");
+    let two = drawn(|case| matches!(case, Case::TwoForms(_))).to_string();
+    assert!(two.starts_with("fix_form, then fix_form of a second plan\n  tables: "));
+    assert_eq!(two.lines().count(), 6, "{two}");
+    assert!(two.contains("\n  second plan: ["), "{two}");
 }
 
 #[test]
@@ -1472,4 +1853,127 @@ fn padded(content: &[u8], length: usize) -> Vec<u8> {
     let mut padded = content.to_vec();
     padded.resize(length, 0);
     padded
+}
+
+/// The kind of a case by its answer, and by how long the area is beside the plan and its form.
+fn kind_of_form(case: &FormCase, answer: Answer) -> &'static str {
+    let (area, plan, size) = (case.area.len(), case.plan.len(), answer.values[0]);
+    match answer.number {
+        1..=8 if area == 0 => "tables, no area",
+        1..=8 => "tables",
+        11..=14 if area == 0 => "plan, no area",
+        11..=14 => "plan",
+        70 if area == 0 => "70, no area",
+        70 if area < plan => "70, the area shorter than the plan",
+        70 => "70",
+        74 if area == 0 => "74, no area",
+        74 if area + 1 == form(&case.plan).len() => "74, one byte too short",
+        74 => "74",
+        _ if area == size && area < plan => "fixed, the area full and shorter than the plan",
+        _ if area == size => "fixed, the area full",
+        _ if area < plan => "fixed, the area shorter than the plan",
+        _ => "fixed",
+    }
+}
+
+/// The kind of a plan by how its form differs from it.
+fn kind_of_fixed(plan: &[u8], form: &[u8]) -> &'static str {
+    match (plan, form) {
+        ([0], _) => "dead stop alone",
+        ([_], _) => "an action alone",
+        _ if form == plan => "in form",
+        _ if form.len() == plan.len() => "in another order",
+        _ if form.len() > 1 => "in fewer words",
+        _ => "in one word",
+    }
+}
+
+#[test]
+fn every_kind_of_form_is_drawn() {
+    let (mut met, mut numbers) = (BTreeMap::new(), BTreeSet::new());
+    // The words of the longest plan, of the longest form, and of the longest plan with a short one.
+    let mut longest = [0; 3];
+    for seed in 0..32_000 {
+        let case = Case::draw(seed);
+        let Case::FixForm(fixing) = &case else {
+            continue;
+        };
+        let outcome = case.run(&Reference);
+        *met.entry(kind_of_form(fixing, outcome.answer)).or_insert(0) += 1;
+        numbers.insert(outcome.answer.number);
+        if let Some(form) = made(&outcome) {
+            *met.entry(kind_of_fixed(&fixing.plan, form)).or_insert(0) += 1;
+            let words = fixing.plan.len();
+            let with_short = if form.len() < 99 { words } else { 0 };
+            let found = [words, form.len(), with_short];
+            let most = longest.iter_mut().zip(found);
+            most.for_each(|(longest, words)| *longest = words.max(*longest));
+        }
+    }
+    let kinds: Vec<&str> = met.keys().copied().collect();
+    assert_eq!(
+        kinds,
+        [
+            "70",
+            "70, no area",
+            "70, the area shorter than the plan",
+            "74",
+            "74, no area",
+            "74, one byte too short",
+            "an action alone",
+            "dead stop alone",
+            "fixed",
+            "fixed, the area full",
+            "fixed, the area full and shorter than the plan",
+            "fixed, the area shorter than the plan",
+            "in another order",
+            "in fewer words",
+            "in form",
+            "in one word",
+            "plan",
+            "plan, no area",
+            "tables",
+            "tables, no area"
+        ]
+    );
+    assert!(met.values().all(|&count| count > 5), "{met:?}");
+    let all = (0..=8).chain(11..=14).chain([70, 74]);
+    assert_eq!(numbers, all.collect());
+    assert_eq!(longest, [16_383; 3]);
+}
+
+#[test]
+fn forms_come_again() {
+    let (mut again, mut same, mut other) = (0, 0, 0);
+    for seed in 0..32_000 {
+        let case = Case::draw(seed);
+        let (tables, plans) = match &case {
+            Case::FormOfForm(case) => (&case.fixing.tables, [&case.fixing.plan; 2]),
+            Case::TwoForms(case) => (&case.fixing.tables, [&case.fixing.plan, &case.plan]),
+            _ => continue,
+        };
+        let outcome = case.run(&Reference);
+        assert_eq!(outcome.before.len(), 1);
+        let found = made(&outcome).unwrap();
+        // The first area may be too short.
+        let Some(first) = made(&outcome.before[0]) else {
+            continue;
+        };
+        assert_eq!(first == found, alike(tables, plans[0], plans[1]), "{seed}");
+        match &case {
+            Case::FormOfForm(_) => again += 1,
+            _ if first == found => same += 1,
+            _ => other += 1,
+        }
+    }
+    assert!(
+        again > 50 && same > 50 && other > 50,
+        "{again} {same} {other}"
+    );
+}
+
+/// The form that a call left in its area; none where it was refused.
+fn made(outcome: &Outcome) -> Option<&[u8]> {
+    let answer = outcome.answer;
+    (answer.number == 0).then(|| &outcome.lent[0][..answer.values[0]])
 }

@@ -1,6 +1,6 @@
 -- `areas::clear_from` meets its contract. The invariant: what stands before place i is the kept part and then zeros. Assumes nothing.
 use native.Mathlib.Omega.{arith}
-use Prim.Native.Nat.{_≤_, _-_, _+_}
+use Prim.Native.Nat.{_≤_, _-_}
 use mathlib.Core.Path.{_≡_, refl}
 use mathlib.Core.List.{_++_}
 use lib.ListN.{length, take, replicate, length-set}

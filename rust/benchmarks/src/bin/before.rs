@@ -21,9 +21,12 @@ fn main() {
         "they agreed in every number answered and in every lent byte. Steps or words alone: the call"
     );
     println!(
-        "less the same call with a plan of one action. Blocks alone: the same call with a plan area"
+        "less the same call with a plan of one action. Blocks alone, of a file written: the call less"
     );
-    println!("of no bytes, which is refused when the blocks are read.");
+    println!(
+        "the same call with an area of no bytes; of a file read: the same call with a plan area of no"
+    );
+    println!("bytes, which is refused when the blocks are read.");
     unfoldings();
     replays();
     read_texts();
@@ -31,6 +34,7 @@ fn main() {
     judged_plans();
     questions();
     preceding_actions();
+    written_files();
     read_files();
 }
 
@@ -196,6 +200,15 @@ fn preceding_actions() {
     table.end();
 }
 
+fn written_files() {
+    let mut table = Table::begin("file written | words | blocks", ["call", "blocks alone"]);
+    for (names, mut writing) in station_files() {
+        let (blocks, empty) = (writing.blocks(), writing.without_blocks());
+        table.row(&names, measure_alone(&names, &mut writing, empty, blocks));
+    }
+    table.end();
+}
+
 fn read_files() {
     let mut table = Table::begin("file read | words | blocks", ["call", "blocks alone"]);
     for (names, writing) in station_files() {
@@ -342,6 +355,17 @@ mod before {
             second: u8,
             yes: *mut usize,
             at: *mut usize,
+            place: *mut usize,
+        ) -> u8;
+
+        fn before_write_station(
+            tables: *const u8,
+            tables_len: usize,
+            plan: *const u8,
+            plan_len: usize,
+            file: *mut u8,
+            file_len: usize,
+            size: *mut usize,
             place: *mut usize,
         ) -> u8;
 
@@ -503,8 +527,23 @@ mod before {
                 )
             })
         },
-        // The call is new with version 0.10.0, and can be compared from the next version on.
-        write_station: |_, _, _| panic!("the earlier library writes no station files"),
+        // The call is new with version 0.11.0, and can be compared from the next version on.
+        fix_form: |_, _, _| panic!("the earlier library has no fixed forms"),
+        write_station: |tables, plan, area| {
+            // SAFETY: as above.
+            ended(|_, size, place| unsafe {
+                before_write_station(
+                    tables.as_ptr(),
+                    tables.len(),
+                    plan.as_ptr(),
+                    plan.len(),
+                    area.as_mut_ptr(),
+                    area.len(),
+                    size,
+                    place,
+                )
+            })
+        },
         read_station: |file, tables, plan| {
             // SAFETY: as above.
             ended(|_, size, place| unsafe {

@@ -8,8 +8,8 @@
 use aberulwy::{raw, LONGEST_LISTING};
 use benchmarks::contenders::{Contender, PROVED};
 use benchmarks::workloads::{
-    deep_texts, long_sum, precedences, stopped_merges, walks, Places, Replay, Workload, MERGES,
-    STOPPED_CHAINS,
+    deep_texts, forms, long_sum, precedences, stopped_merges, walks, Places, Replay, Workload,
+    MERGES, STOPPED_CHAINS,
 };
 use reference::plans::LONGEST_PLAN;
 use reference::stations::{station_file, BLOCK, MOST_BLOCKS};
@@ -24,7 +24,7 @@ use std::thread::Builder;
 const ENOUGH: usize = 4096;
 /// A thread that asks for less may get more, so less is not tried.
 const LITTLE: usize = 32;
-const CALLS: [&str; 15] = [
+const CALLS: [&str; 16] = [
     "judge_tables",
     "judge_plan",
     "is_basic",
@@ -40,6 +40,7 @@ const CALLS: [&str; 15] = [
     "walk",
     "precedes",
     "write_station",
+    "fix_form",
 ];
 
 fn main() {
@@ -156,6 +157,8 @@ fn prepared(call: &str) -> Prepared {
             let mut area = vec![0; BLOCK * MOST_BLOCKS];
             Box::new(move || raw::write_station(&tables, &plan, &mut area).number)
         }
+        // Plans of all lengths and shapes.
+        "fix_form" => all(forms(), proved),
         _ => panic!("no call {call}"),
     }
 }

@@ -8,16 +8,19 @@
 //! - the checker: `words`, `word_laws`, `gap`, `checking`
 //! - the unfolding: `records`, `graph`, `graph_laws`, `graph_steps`, `unfolding`
 //! - the reader of texts, which uses none of them: `texts`
-//! - what the walks, the counting and the precedence share, which uses none of them: `basic`
+//! - what the walks, the counting, the precedence and the forms share, which uses none of them:
+//!   `basic`
 //! - the walks: `walks`
 //! - the counting: `counting`
 //! - the precedence, in one pass where the library takes two: `precedence`
+//! - the fixed forms, with Rust's own sort where the library merges runs: `forms`
 //! - the writer and the reader of station files, which use none of them: `stations`
 
 mod areas;
 mod basic;
 mod checking;
 mod counting;
+mod forms;
 mod gap;
 mod graph;
 mod graph_laws;
@@ -34,6 +37,7 @@ mod words;
 pub use basic::is_basic;
 pub use checking::check_rewriting;
 pub use counting::count_orders;
+pub use forms::fix_form;
 pub use precedence::precedes;
 pub use stations::{read_station, write_station};
 pub use texts::read_text;

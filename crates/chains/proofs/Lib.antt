@@ -1,0 +1,5 @@
+pub mod Paths
+pub mod Comparing
+pub mod Sorting
+pub mod Linking
+pub mod Tied

@@ -1,0 +1,4 @@
+pub mod Form
+pub mod InForm
+pub mod Sorting
+pub mod Gathering
