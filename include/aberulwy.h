@@ -11,10 +11,10 @@
  * What it may write to must not overlap anything else handed to it, and no pointer may be null, even where its length is 0.
  *
  * Stack: allow 640 KiB for aberulwy_list_station, 512 KiB for aberulwy_unfold and aberulwy_unfold_checked, 256 KiB for aberulwy_fix_form, 192 KiB for
- * aberulwy_read_text, 128 KiB for aberulwy_check_rewriting and aberulwy_walk, 96 KiB for aberulwy_precedes, and 64 KiB for each other call. Measured in
+ * aberulwy_read_text and aberulwy_check_rewriting, 128 KiB for aberulwy_walk, 96 KiB for aberulwy_precedes, and 64 KiB for each other call. Measured in
  * threads on x86-64 Linux, aberulwy_list_station needs 486 KiB, aberulwy_unfold and aberulwy_unfold_checked 354, aberulwy_fix_form 198, aberulwy_read_text
- * 131 (for a text 200 brackets deep; no text goes deeper), aberulwy_check_rewriting and aberulwy_walk 86, aberulwy_precedes 54, and the others at most
- * 32. Nothing is allocated.
+ * 131 (for a text 200 brackets deep; no text goes deeper), aberulwy_check_rewriting 121 (for a step from right to left with a long left side), aberulwy_walk
+ * 86, aberulwy_precedes 54, and the others at most 32. Nothing is allocated.
  *
  * The archive is made by `rt staticlib aberulwy_c`: target/staticlib/libaberulwy_c.a.
  */
@@ -24,7 +24,7 @@
 #include <stddef.h>
 #include <stdint.h>
 
-#define ABERULWY_VERSION "0.11.0"
+#define ABERULWY_VERSION "0.12.0"
 
 #ifdef __cplusplus
 extern "C" {
@@ -67,9 +67,13 @@ uint8_t aberulwy_unfold_checked(const uint8_t *tables, size_t tables_len, const 
 uint8_t aberulwy_reached(const uint8_t *a, size_t a_len, const uint8_t *b, size_t b_len, size_t steps, size_t size, uint8_t *plan, size_t plan_len,
                          size_t *copied);
 
-/* Checks a rewriting from a start plan to a claimed end plan. Returns 0 where it is accepted, or 31 (a law does not fit, or its place is past the
- * end), 32 (a plan too long) or 33 (another end) where it is turned back; *steps is then the count of steps made and *size that of the words of the
- * plan reached. Or returns 1 to 8, 11 to 18, which leave the areas as they are. The areas are left as by aberulwy_unfold. */
+/* Checks a rewriting from a start plan to a claimed end plan. A record of three bytes is a step from left to right: law, then place, low byte first. A
+ * record whose first byte is 128 more than a law's number is a step from right to left: behind its place it has the length of the left side, two bytes,
+ * low byte first, and the words of the left side. It fits where that law, applied at the last of these words, gives exactly the subplan at the place; the
+ * left side then stands there instead. Returns 0 where the rewriting is accepted, or 31 (a step does not fit, or its place is past the end), 32 (a plan
+ * too long) or 33 (another end) where it is turned back; *steps is then the count of steps made and *size that of the words of the plan reached. Or
+ * returns 1 to 8, 11 to 18, 75, which leave the areas as they are: for the rewriting 16 (the last record is cut short), then 17 (a first byte names no law
+ * in either direction), then 75 (a left side that is no accepted plan). The areas are left as by aberulwy_unfold. */
 uint8_t aberulwy_check_rewriting(const uint8_t *tables, size_t tables_len, const uint8_t *start, size_t start_len, const uint8_t *claimed,
                                  size_t claimed_len, const uint8_t *rewriting, size_t rewriting_len, uint8_t *a, size_t a_len, uint8_t *b,
                                  size_t b_len, size_t *steps, size_t *size, size_t *place);

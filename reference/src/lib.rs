@@ -8,8 +8,8 @@
 //! bytes and the numbers. [`texts`] was written from request 101 of the customer's
 //! change requests, [`walks`] from request 102, the counts of [`plans`] and the program's
 //! first line from request 103, [`precedence`] from request 105, [`stations::write_station`] from
-//! request 106, and [`forms`] from request 107; [`descriptions`], [`reading`] and [`random`] are
-//! this folder's own.
+//! request 106, [`forms`] from request 107, and [`records`] with the steps backwards of [`checking`]
+//! from request 108; [`turning`], [`descriptions`], [`reading`] and [`random`] are this folder's own.
 
 #![forbid(unsafe_code)]
 #![warn(missing_docs)]
@@ -24,12 +24,14 @@ pub mod plans;
 pub mod precedence;
 pub mod random;
 pub mod reading;
+pub mod records;
 pub mod refusals;
 pub mod runs;
 pub mod stations;
 pub mod tables;
 pub mod texts;
 pub mod trees;
+pub mod turning;
 pub mod unfolding;
 pub mod walks;
 

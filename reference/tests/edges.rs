@@ -1,14 +1,17 @@
 //! The random cases come to the edges: each kind of case named here is met.
 
-use reference::checking;
-use reference::plans::{judge_plan, judged_orders, Counts, LONGEST_PLAN};
+use reference::checking::{self, step};
+use reference::laws::apply;
+use reference::plans::{judge_plan, judged_orders, subplan, Counts, LONGEST_PLAN};
 use reference::random::cases::{check_case, unfold_case, CheckCase, UnfoldCase};
 use reference::random::plans::damaged_plan;
+use reference::random::rewritings::spans;
 use reference::random::stations::{write_case, WriteCase};
 use reference::random::tables::damaged_tables;
 use reference::random::Random;
 use reference::random::{cases, walks};
-use reference::refusals::Place;
+use reference::records::{cut, Record};
+use reference::refusals::{Place, Refusal};
 use reference::tables::{below, judge_tables};
 use reference::unfolding;
 use std::collections::BTreeMap;
@@ -285,7 +288,7 @@ fn note_unfolded(met: &mut Met, case: &UnfoldCase, number: u8, steps: usize, siz
 #[test]
 fn edges_of_checking() {
     let (mut random, mut met) = (Random::new(44), Met::default());
-    for _ in 0..12_000 {
+    for _ in 0..24_000 {
         let case = check_case(&mut random);
         match case.run().answer {
             checking::Answer::Accepted { steps, size } => {
@@ -295,6 +298,18 @@ fn edges_of_checking() {
                 met.note(
                     "accepted, full area",
                     size == case.a.len().min(case.b.len()),
+                );
+                let records = cut(&case.rewriting).unwrap();
+                let backwards = records
+                    .iter()
+                    .filter(|record| record.left.is_some())
+                    .count();
+                met.note("accepted, all backwards", backwards == steps && steps > 1);
+                met.note("accepted, both ways", backwards > 0 && backwards < steps);
+                let mut lefts = records.iter().filter_map(|record| record.left);
+                met.note(
+                    "accepted, a long left side",
+                    lefts.any(|left| left.len() > 255),
                 );
             }
             checking::Answer::Back {
@@ -307,6 +322,9 @@ fn edges_of_checking() {
                 met.note("17 at the first step", refusal.number == 17 && step == 0);
                 met.note("17 at a later step", refusal.number == 17 && step > 0);
                 note_claimed(&mut met, &case, refusal.number);
+                if let Some(records) = cut(&case.rewriting) {
+                    note_refused_records(&mut met, &case, refusal, &records);
+                }
             }
         }
     }
@@ -315,9 +333,13 @@ fn edges_of_checking() {
 
 fn note_back(met: &mut Met, case: &CheckCase, number: u8, steps: usize, size: usize) {
     let room = case.a.len().min(case.b.len()).min(LONGEST_PLAN);
+    let records = cut(&case.rewriting).unwrap();
+    if number < 33 {
+        let made = &records[..steps];
+        note_backwards(met, case, number, made, &records[steps], size);
+    }
     if number == 31 {
-        let step = &case.rewriting[3 * steps..3 * steps + 3];
-        let place = step[1] as usize + 256 * step[2] as usize;
+        let place = records[steps].place;
         met.note("31 just past the end", place == size);
         met.note("31 at 65,535", place == 65_535);
         met.note("31 within the plan", place < size);
@@ -346,16 +368,142 @@ fn note_claimed(met: &mut Met, case: &CheckCase, number: u8) {
         let room = case.a.len().min(case.b.len());
         met.note("18 before 15", case.start.len() > room);
     }
-    let odd = !case.rewriting.len().is_multiple_of(3);
+    let odd = cut(&case.rewriting).is_none();
     met.note("15 before 16", number == 15 && odd);
+    if number == 16 {
+        note_cut_short(met, case);
+    }
+}
+
+/// Where the last record is cut short, and what else there is in the list.
+fn note_cut_short(met: &mut Met, case: &CheckCase) {
+    let spans = spans(&case.rewriting);
+    let whole = spans.last().map_or(0, |last| last.end);
+    let (before, rest) = case.rewriting.split_at(whole);
+    let back = (129..=160).contains(&rest[0]);
+    met.note("16, one byte over", rest.len() == 1 && !back);
+    met.note("16, two bytes over", rest.len() == 2 && !back);
+    met.note("16, one byte, backwards", rest.len() == 1 && back);
+    met.note("16, two bytes, backwards", rest.len() == 2 && back);
+    met.note("16 before the length", rest.len() == 3);
+    met.note("16 in the length", rest.len() == 4);
+    met.note("16 before the words", rest.len() == 5);
+    met.note("16 in the words", rest.len() > 6);
+    let length = |rest: &[u8]| rest[3] as usize + 256 * rest[4] as usize;
+    let last = rest.len() > 5 && rest.len() - 5 + 1 == length(rest);
+    met.note("16 before the last word", last);
     met.note(
-        "16, one byte over",
-        number == 16 && case.rewriting.len() % 3 == 1,
+        "16, a multiple of three",
+        case.rewriting.len().is_multiple_of(3),
     );
+    met.note("16, a first byte unknown", rest[0] == 0 || rest[0] == 128);
+    let records = cut(before).unwrap();
+    let no_plan = records.iter().any(|record| carries_no_plan(case, record));
+    let unknown = records.iter().any(|record| record.law().is_none());
+    met.note("16 before 17", unknown);
+    met.note("16 before 75", no_plan);
+}
+
+fn carries_no_plan(case: &CheckCase, record: &Record) -> bool {
+    let refused = |left: &[u8]| judge_plan(&case.tables, left).is_err();
+    record.left.is_some_and(refused)
+}
+
+/// 17 and 75 among records that are whole.
+fn note_refused_records(met: &mut Met, case: &CheckCase, refusal: Refusal, records: &[Record]) {
+    let step = refusal.printed();
+    let no_plan = |record: &Record| carries_no_plan(case, record);
+    if refusal.number == 17 {
+        let behind = &records[step..];
+        met.note("17 before 75", behind.iter().any(no_plan));
+        met.note("17 behind 75", records[..step].iter().any(no_plan));
+        met.note("17 for 128", records[step].first == 128);
+        met.note("17 for 161", records[step].first == 161);
+        let others = behind.iter().filter(|record| record.law().is_none());
+        met.note("17 twice", others.count() > 1);
+        let backwards = |record: &Record| record.left.is_some();
+        met.note(
+            "17 behind a left side",
+            records[..step].iter().any(backwards),
+        );
+    }
+    if refusal.number == 75 {
+        let left = records[step].left.unwrap();
+        let why = judge_plan(&case.tables, left).unwrap_err().number;
+        met.note("75 for no words", left.is_empty());
+        met.note("75 for too many words", why == 11 && !left.is_empty());
+        met.note("75 for one word too many", left.len() == LONGEST_PLAN + 1);
+        met.note("75 for 65,535 words", left.len() == 65_535);
+        met.note("75 for 12", why == 12);
+        met.note("75 for 13", why == 13);
+        met.note("75 for 14", why == 14);
+        met.note("75 at the first step", step == 0);
+        met.note("75 at a later step", step > 0);
+        met.note(
+            "75 behind a left side",
+            step > 0 && records[step - 1].left.is_some(),
+        );
+        let mut behind = records[step + 1..].iter();
+        met.note("75 twice", behind.any(no_plan));
+    }
+}
+
+/// The subplan at a place of the plan that these steps reach.
+fn made_plan(case: &CheckCase, made: &[Record], place: usize) -> Vec<u8> {
+    let next = |plan: Vec<u8>, record| step(&case.tables, &plan, record).unwrap();
+    let plan = made.iter().fold(case.start.clone(), next);
+    subplan(&plan, place).to_vec()
+}
+
+/// A step backwards that was not made.
+fn note_backwards(
+    met: &mut Met,
+    case: &CheckCase,
+    number: u8,
+    made: &[Record],
+    record: &Record,
+    size: usize,
+) {
+    let Some(left) = record.left else {
+        let forgetting = made.iter().filter(|record| record.left.is_some());
+        met.note("31 or 32 behind a step backwards", forgetting.count() > 0);
+        return;
+    };
+    let room = case.a.len().min(case.b.len()).min(LONGEST_PLAN);
+    if number == 32 {
+        met.note("32 by a step backwards", made.is_empty());
+        met.note("32 by a later step backwards", !made.is_empty());
+        met.note("32, left side longer than C", left.len() > room);
+        met.note("32, left side within C", left.len() <= room);
+        return;
+    }
+    let law = record.law().unwrap();
+    let right = apply(&case.tables, left, law, left.len() - 1);
+    met.note("31 backwards, past the end", record.place >= size);
+    met.note("31 backwards, no left side of the law", right.is_none());
     met.note(
-        "16, two bytes over",
-        number == 16 && case.rewriting.len() % 3 == 2,
+        "31 backwards, another subplan",
+        right.is_some() && record.place < size,
     );
+    met.note("31 backwards, left side longer than C", left.len() > room);
+    let longest = left.len() == LONGEST_PLAN;
+    met.note("31 backwards, a left side as long as can be", longest);
+    // Of the law's form, but the tables say otherwise.
+    let by_the_tables =
+        right.is_none() && matches!((law, left), (20 | 21, [_, _]) | (24 | 25, [_, _, 69]));
+    met.note("31 backwards, by the tables", by_the_tables);
+    if left.len() < 99 && record.place < size {
+        let wanted = made_plan(case, made, record.place);
+        let mut inside = (0..left.len() - 1).map(|at| apply(&case.tables, left, law, at));
+        let here = inside.any(|given| given == Some(wanted.clone()));
+        met.note("31 backwards, the law fits inside the left side", here);
+    }
+    met.note("31 backwards, no step", made.is_empty());
+    met.note(
+        "31 backwards, in A",
+        !made.is_empty() && made.len().is_multiple_of(2),
+    );
+    met.note("31 backwards, in B", made.len() % 2 == 1);
 }
 
 #[test]

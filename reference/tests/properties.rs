@@ -1,6 +1,6 @@
 //! What holds of all cases, tried on thousands of random ones.
 
-use reference::checking::{self, check_rewriting};
+use reference::checking::{self, check_rewriting, step};
 use reference::laws::{apply, next_step};
 use reference::plans::{counts, is_basic, judge, judge_plan, starts, subplan, term, words};
 use reference::random::cases::*;
@@ -11,6 +11,7 @@ use reference::random::rewritings::derivation;
 use reference::random::stations::{any_file, station_case};
 use reference::random::tables::{lawful_tables, lawful_tables_over};
 use reference::random::Random;
+use reference::records::cut;
 use reference::stations::{program, read_station, station_file};
 use reference::tables::{judge_tables, trial_tables, TABLES_LENGTH};
 use reference::trees::alike;
@@ -209,9 +210,8 @@ fn checker_leaves_areas_as_said() {
             checking::Answer::Back { steps, size, .. } => (steps, size),
         };
         let mut plans = vec![vec![], case.start.clone()];
-        for step in case.rewriting.chunks(3).take(steps) {
-            let place = step[1] as usize + 256 * step[2] as usize;
-            plans.push(apply(&case.tables, &plans[plans.len() - 1], step[0], place).unwrap());
+        for record in cut(&case.rewriting).unwrap().iter().take(steps) {
+            plans.push(step(&case.tables, &plans[plans.len() - 1], record).unwrap());
         }
         let (reached, before) = (&plans[steps + 1], &plans[steps]);
         assert_eq!(reached.len(), size);

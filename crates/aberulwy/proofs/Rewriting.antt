@@ -12,7 +12,7 @@ use Rattle.refusals.specs.Refusal.{Report}
 use Rattle.tables.specs.Tables.{Tables}
 use Rattle.areas.specs.Area.{padded}
 use Rattle.areas.specs.Reached.{capacity, even?, reached-part}
-use Rattle.rewritings.specs.Records.{bytes-of}
+use Rattle.rewritings.specs.Moves.{bytes-of}
 use Rattle.unfolding.specs.declared.Unfolded.{Unfolded}
 use Rattle.unfolding.specs.declared.Unfolded.the-variants.{Finished, Stopped, Refused as Not-unfolded}
 use Rattle.rewritings.specs.Runs.{Run, run-of}
@@ -86,13 +86,13 @@ module _ (t : Tables) (start claimed rewriting a b : List ℕ) where
   pub check-contract : (o : CheckOutcome) → o ≡ check-outcome t start claimed rewriting a b
       → (o ≡ check-outcome t start claimed rewriting a b)
       × ((check-report (o .answer) ≡ check-reported t start claimed rewriting a b)
-      × (CheckClaims t start claimed (o .answer) × StepClaims (check-given t start claimed rewriting a b) o))
+      × (CheckClaims (check-given t start claimed rewriting a b) o × StepClaims (check-given t start claimed rewriting a b) o))
   check-contract o e = (
     e,
     (
       ap (λ (x : CheckOutcome). check-report (x .answer)) e ∙ check-numbers,
       (
-        subst (λ (x : CheckOutcome). CheckClaims t start claimed (x .answer)) (sym e) (check-claims t start claimed rewriting a b),
+        subst (CheckClaims (check-given t start claimed rewriting a b)) (sym e) (check-claims t start claimed rewriting a b),
         subst (StepClaims (check-given t start claimed rewriting a b)) (sym e) (step-claims t start claimed rewriting a b),
       ),
     ),

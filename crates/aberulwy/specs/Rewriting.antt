@@ -6,7 +6,7 @@ use mathlib.Core.Option.{Option, none, some}
 use lib.ListN.{length}
 use Rattle.tables.specs.Tables.{Tables}
 use Rattle.areas.specs.Reached.{capacity, even?, reached-part}
-use Rattle.rewritings.specs.Records.{bytes-of}
+use Rattle.rewritings.specs.Moves.{bytes-of}
 use Rattle.refusals.specs.declared.Refusal.{Refusal}
 use Rattle.refusals.specs.Refusal.{Report, refused-report}
 use Rattle.unfolding.specs.declared.Unfolded.{Unfolded}

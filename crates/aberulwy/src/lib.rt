@@ -140,7 +140,9 @@ pub fn unfold(
 }
 
 // Checks a rewriting from a start plan to a claimed end plan: accepted, or turned back by how far it had come (31 to 33); the plan reached and
-// the one before it go to the areas. Refusals 1 to 8, 11 to 18 leave the areas as they are. A single step is a rewriting of one record.
+// the one before it go to the areas. A record is a step from left to right, in three bytes, or one from right to left, which carries the left side of
+// its law. Refusals 1 to 8, 11 to 18, then 75 for a left side that is no accepted plan, leave the areas as they are. A single step is a rewriting of
+// one record.
 pub fn check_rewriting(
     tables: &[u8],
     start: &[u8],
@@ -155,7 +157,10 @@ pub fn check_rewriting(
     ensures numbers { λ r. ⌜ check-report r
         ≡ check-reported (now (tables .entry)) (now (start .entry)) (now (claimed .entry)) (now (rewriting .entry))
         (now (a .entry)) (now (b .entry)) ⌝ }
-    ensures claims { λ r. ⌜ CheckClaims (now (tables .entry)) (now (start .entry)) (now (claimed .entry)) r ⌝ }
+    ensures claims { λ r. ⌜ CheckClaims
+        (check-given (now (tables .entry)) (now (start .entry)) (now (claimed .entry)) (now (rewriting .entry))
+        (now (a .entry)) (now (b .entry)))
+        (record { answer = r; a = now (a .exit); b = now (b .exit) }) ⌝ }
     ensures single { λ r. ⌜ StepClaims
         (check-given (now (tables .entry)) (now (start .entry)) (now (claimed .entry)) (now (rewriting .entry))
         (now (a .entry)) (now (b .entry)))

@@ -18,27 +18,27 @@ use Rattle.fixing.specs.Outcome.{basic-refusal, fixed-form, form-refusal, fixed
 use Rattle.fixing.specs.Claims.{FormClaims}
 use Rattle.aberulwy_c.specs.Handing.{Answered}
 use Rattle.aberulwy_c.specs.Seen.{FormFixedAs, fixed, refused, FormSeen}
-use Rattle.aberulwy_c.proofs.Numbers.{low-plan}
-use Rattle.aberulwy_c.proofs.Ranges.{Range, Ranges, ranges-or, ranges-low, ranges-if}
+use Rattle.aberulwy_c.proofs.Numbers.{plan-numbers}
+use Rattle.aberulwy_c.proofs.Ranges.{Range, widened, Numbered, numbered-or, numbered-if}
 
--- the highest refusal
-abbrev highest : ℕ
-highest = 74
+-- the numbers of refusals
+abbrev Number : ℕ → Type 0
+Number = Range 74
 
 module _ (t : Tables) (ws a : List ℕ) where
-  form-range : Ranges highest (form-refusal t ws (length a))
+  form-range : Numbered Number (form-refusal t ws (length a))
   unfolding form-refusal basic-refusal
   form-range =
-      ranges-or highest (basic-refusal t ws) _
-      (ranges-or highest (plan-refusal t ws) (refuse-if (not (basic-words? (actions t) ws)) 70) (ranges-low highest (omega arith) (plan-refusal t ws) (low-plan t ws))
-      (ranges-if highest (not (basic-words? (actions t) ws)) 70 (omega arith) (omega arith)))
-      (ranges-if highest (ltb (length a) (length (fixed-form t ws))) 74 (omega arith) (omega arith))
+      numbered-or Number (basic-refusal t ws) _
+      (numbered-or Number (plan-refusal t ws) (refuse-if (not (basic-words? (actions t) ws)) 70) (plan-numbers Number (widened 74 (omega arith)) t ws)
+      (numbered-if Number (not (basic-words? (actions t) ws)) 70 (omega arith, omega arith)))
+      (numbered-if Number (ltb (length a) (length (fixed-form t ws))) 74 (omega arith, omega arith))
 
-  not-fixed-range : (r : Refusal) → form-outcome t ws a .answer ≡ Refused r → Range highest r
+  not-fixed-range : (r : Refusal) → form-outcome t ws a .answer ≡ Refused r → Number (r .number)
   unfolding form-outcome
   not-fixed-range r = go (form-refusal t ws (length a)) form-range
     where
-      go : (o : Option Refusal) → Ranges highest o → fixed-unless o (fixed-form t ws) a .answer ≡ Refused r → Range highest r
+      go : (o : Option Refusal) → Numbered Number o → fixed-unless o (fixed-form t ws) a .answer ≡ Refused r → Number (r .number)
       go none x e = let z : _≡_ {A = ℕ} 0 1 = cc in absurd (omega arith)
       go (some g) x e = let q : g ≡ r = cc in rw (← q) x
 

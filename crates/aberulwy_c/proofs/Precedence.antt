@@ -19,19 +19,19 @@ use Rattle.aberulwy_c.specs.Answers.{Returned, returned}
 use Rattle.aberulwy_c.specs.Handing.{Answered}
 use Rattle.aberulwy_c.specs.Seen.{PrecededAs, is-so, not-so, refused, PrecedenceSeen}
 use Rattle.aberulwy_c.proofs.Answers.{answered, returned-2}
-use Rattle.aberulwy_c.proofs.Numbers.{low-plan}
-use Rattle.aberulwy_c.proofs.Ranges.{Range, Ranges, ranges-or, ranges-low, ranges-if}
+use Rattle.aberulwy_c.proofs.Numbers.{plan-numbers}
+use Rattle.aberulwy_c.proofs.Ranges.{Range, widened, Numbered, numbered-or, numbered-if}
 
--- the highest refusal
-abbrev highest : ℕ
-highest = 73
+-- the numbers of refusals
+abbrev Number : ℕ → Type 0
+Number = Range 73
 
 abbrev Answer-range : Precedence → Type 0
 Answer-range Yes = Unit
 Answer-range (No p) = Unit
-Answer-range (Refused f) = Range highest f
+Answer-range (Refused f) = Number (f .number)
 
-unless-range : (o : Option Refusal) (p : Option ℕ) → Ranges highest o → Answer-range (unless-refused o p)
+unless-range : (o : Option Refusal) (p : Option ℕ) → Numbered Number o → Answer-range (unless-refused o p)
 unless-range (some f) p r = r
 unless-range none none r = tt
 unless-range none (some p) r = tt
@@ -41,9 +41,9 @@ module _ (t : Tables) (plan : List ℕ) (first second : ℕ) where
   unfolding precedence-answer precedence-refusal
   range =
       unless-range (precedence-refusal t plan first second) (overtaking (actions t) plan first second)
-      (ranges-or highest (plan-refusal t plan) _ (ranges-low highest (omega arith) (plan-refusal t plan) (low-plan t plan))
-      (ranges-or highest (refuse-if (not-a-pair? (actions t) first second) 73) _ (ranges-if highest (not-a-pair? (actions t) first second) 73 (omega arith) (omega arith))
-      (ranges-if highest (not (basic-words? (actions t) plan)) 70 (omega arith) (omega arith))))
+      (numbered-or Number (plan-refusal t plan) _ (plan-numbers Number (widened 73 (omega arith)) t plan)
+      (numbered-or Number (refuse-if (not-a-pair? (actions t) first second) 73) _ (numbered-if Number (not-a-pair? (actions t) first second) 73 (omega arith, omega arith))
+      (numbered-if Number (not (basic-words? (actions t) plan)) 70 (omega arith, omega arith))))
 
   preceded-as : (x : Precedence) → Answer-range x → {n p y a : ℕ} → Answered (precedence-report x) n p y a → PrecededAs x n p y a
   preceded-as Yes r h = rw (h .number, h .place, h .first, h .second) is-so

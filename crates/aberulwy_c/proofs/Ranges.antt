@@ -1,30 +1,46 @@
--- From 1 to which number the refusals of a call go.
-use Prim.Native.Nat.{ℕ, _≤_}
+-- Which numbers refusals have: of the first of several, of one by a test, and of the first that a search finds.
+use Prim.Native.Nat.{ℕ, zero, suc, _≤_}
 use native.Mathlib.Omega.{arith}
-use mathlib.Core.Path.{_≡_}
-use mathlib.Core.Bool.{Bool, true, false}
+use mathlib.Core.Bool.{Bool, true, false, cond}
 use mathlib.Core.Option.{Option, none, some}
 use Rattle.refusals.specs.declared.Refusal.{Refusal}
 use Rattle.refusals.specs.Refusal.{refuse-if, or-else}
-use Rattle.aberulwy_c.proofs.Numbers.{low?, low-range}
+use Rattle.tables.specs.Search.{first-of, first-from, unless-met}
 
--- a refusal's number is 1 to the highest
-abbrev pub Range : ℕ → Refusal → Type 0
-Range top f = (1 ≤ f .number) × (f .number ≤ top)
+-- a number from 1 to the highest
+abbrev pub Range : ℕ → ℕ → Type 0
+Range top k = (1 ≤ k) × (k ≤ top)
 
-abbrev pub Ranges : ℕ → Option Refusal → Type 0
-Ranges top none = Unit
-Ranges top (some f) = Range top f
+pub widened : (top : ℕ) → 18 ≤ top → (k : ℕ) → Range 18 k → Range top k
+widened top h k r = (r .0, omega (arith, r .1))
 
-module _ (top : ℕ) where
-  pub ranges-or : (a b : Option Refusal) → Ranges top a → Ranges top b → Ranges top (or-else a b)
-  ranges-or none b x y = y
-  ranges-or (some f) b x y = x
+module _ (P : ℕ → Type 0) where
+  -- where there is a refusal, its number is such
+  abbrev pub Numbered : Option Refusal → Type 0
+  Numbered none = Unit
+  Numbered (some f) = P (f .number)
 
-  pub ranges-low : 18 ≤ top → (o : Option Refusal) → low? o ≡ true → Ranges top o
-  ranges-low h none e = tt
-  ranges-low h (some f) e = let i = low-range (f .number) e in (i .0, omega (arith, i .1))
+  pub numbered-or : (a b : Option Refusal) → Numbered a → Numbered b → Numbered (or-else a b)
+  numbered-or none b x y = y
+  numbered-or (some f) b x y = x
 
-  pub ranges-if : (b : Bool) (k : ℕ) → 1 ≤ k → k ≤ top → Ranges top (refuse-if b k)
-  ranges-if true k l h = (l, h)
-  ranges-if false k l h = tt
+  pub numbered-cond : (c : Bool) (a b : Option Refusal) → Numbered a → Numbered b → Numbered (cond c a b)
+  numbered-cond true a b x y = x
+  numbered-cond false a b x y = y
+
+  pub numbered-if : (b : Bool) (k : ℕ) → P k → Numbered (refuse-if b k)
+  numbered-if true k x = x
+  numbered-if false k x = tt
+
+  pub numbered-unless : (b : Bool) (f : Refusal) → P (f .number) → Numbered (unless-met b f)
+  numbered-unless true f x = tt
+  numbered-unless false f x = x
+
+  numbered-of : (a b : Option Refusal) → Numbered a → Numbered b → Numbered (first-of a b)
+  numbered-of none b x y = y
+  numbered-of (some f) b x y = x
+
+  pub numbered-first : (g : ℕ → Option Refusal) → ((i : ℕ) → Numbered (g i)) → (k m : ℕ) → Numbered (first-from g k m)
+  unfolding first-from
+  numbered-first g h k zero = tt
+  numbered-first g h k (suc m) = numbered-of (g k) (first-from g (suc k) m) (h k) (numbered-first g h (suc k) m)

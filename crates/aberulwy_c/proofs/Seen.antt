@@ -30,7 +30,7 @@ use Rattle.checking.specs.declared.Checked.{Checked}
 use Rattle.checking.specs.declared.Checked.the-variants.{Accepted, TurnedBack, Refused as Not-checked}
 use Rattle.checking.specs.Checking.{Replay, replay-of, check-refusal, check-outcome, CheckOutcome}
 use Rattle.checking.specs.Checking as checking-of
-use Rattle.rewritings.specs.Records.{moves-of}
+use Rattle.rewritings.specs.Records.{records-of}
 use Rattle.demands.specs.Claims.{unfold-given, check-given, Stops, allowance-spent, list-full, next-too-long, own-rewriting, UnfoldClaims, CheckClaims, StepClaims}
 use Rattle.aberulwy.specs.declared.OwnCheck.{OwnCheck}
 use Rattle.aberulwy.specs.declared.OwnCheck.the-variants.{Checked as Checked-as, NotChecked}
@@ -38,10 +38,11 @@ use Rattle.aberulwy.specs.Judging.{bit, basic-reported, orders-reported}
 use Rattle.aberulwy.specs.Rewriting.{unfold-report, check-report, own-report, check-own, both-outcome, BothOutcome, OwnAccepted}
 use Rattle.aberulwy_c.specs.Answers.{Returned, returned}
 use Rattle.aberulwy_c.specs.Handing.{Answered, MaybeAnswered}
-use Rattle.aberulwy_c.specs.Seen.{UnfoldedAs, CheckedAs, OwnAs, made, not-made, OrdersSeen, UnfoldSeen, CheckSeen, StepSeen, BothNumbers, OwnSeen}
+use Rattle.aberulwy_c.specs.Seen.{RefusalNumber, UnfoldedAs, CheckedAs, OwnAs, made, not-made, OrdersSeen, UnfoldSeen, CheckSeen, BothNumbers, OwnSeen}
 use Rattle.aberulwy_c.specs.Seen as seen-as
 use Rattle.aberulwy_c.proofs.Answers.{returned-0, returned-1, returned-2}
-use Rattle.aberulwy_c.proofs.Numbers.{low?, low-range, low-tables, low-plan, low-unfold, low-check, turned, turned-range, ends?, replay-ends}
+use Rattle.aberulwy_c.proofs.Numbers.{table-numbers, plan-numbers, unfold-numbers, check-numbers, turned, turned-range, ends?, replay-ends}
+use Rattle.aberulwy_c.proofs.Ranges.{Range, Numbered}
 
 untrue : {A : Type 0} → false ≡ true → A
 untrue e = let z : _≡_ {A = ℕ} 0 1 = cc in absurd (omega arith)
@@ -50,21 +51,21 @@ refusing : {A : Type 0} {r : Refusal} → _≡_ {A = Option Refusal} (some r) no
 refusing e = let z : _≡_ {A = ℕ} 0 1 = cc in absurd (omega arith)
 
 -- 0 is answered exactly where nothing is refused
-zero-accepts : (o : Option Refusal) (v : List ℕ) (P : Type 0) {n p x y : ℕ} → low? o ≡ true → (o ≡ none) ↔ P → Answered (reported o v) n p x y → (n ≡ 0) ↔ P
+zero-accepts : (o : Option Refusal) (v : List ℕ) (P : Type 0) {n p x y : ℕ} → Numbered (Range 18) o → (o ≡ none) ↔ P → Answered (reported o v) n p x y → (n ≡ 0) ↔ P
 zero-accepts none v P l h a = (λ e. h .0 refl, λ q. a .number)
 zero-accepts (some r) v P l h a = (
-  λ e. let i = low-range (r .number) l .0 in absurd (omega (arith, i, e, a .number)),
+  λ e. absurd (omega (arith, l .0, e, a .number)),
   λ q. refusing (h .1 q),
 )
 
 pub tables-seen : (t : Tables) {n p x y : ℕ} → Answered (reported (table-refusal t) []) n p x y
     → _≡_ {A = Returned} (record { number = n; place = p; values = []; areas = [] }) (returned 0 (reported (table-refusal t) []) []) × ((n ≡ 0) ↔ Lawful t)
-tables-seen t a = (returned-0 a, zero-accepts (table-refusal t) [] (Lawful t) (low-tables t) (accepted-iff-lawful t) a)
+tables-seen t a = (returned-0 a, zero-accepts (table-refusal t) [] (Lawful t) (table-numbers (Range 18) (λ k h. h) t) (accepted-iff-lawful t) a)
 
 pub plan-seen : (t : Tables) (ws : List ℕ) {n p x y : ℕ} → Answered (reported (plan-refusal t ws) []) n p x y
     → _≡_ {A = Returned} (record { number = n; place = p; values = []; areas = [] }) (returned 0 (reported (plan-refusal t ws) []) [])
     × ((n ≡ 0) ↔ AcceptedPlan t ws)
-plan-seen t ws a = (returned-0 a, zero-accepts (plan-refusal t ws) [] (AcceptedPlan t ws) (low-plan t ws) (accepted-plan t ws) a)
+plan-seen t ws a = (returned-0 a, zero-accepts (plan-refusal t ws) [] (AcceptedPlan t ws) (plan-numbers (Range 18) (λ k h. h) t ws) (accepted-plan t ws) a)
 
 -- 1 is set exactly where the plan is basic
 pub basic-seen : (t : Tables) (ws : List ℕ) {n p x y : ℕ} → Answered (basic-reported t ws) n p x y
@@ -83,7 +84,7 @@ pub orders-seen : (t : Tables) (ws : List ℕ) {n p x y : ℕ} → Answered (ord
 orders-seen t ws {n} {p} {x} {y} a = (returned-2 [] a, record { counted-exactly = exactly; counts = λ e. go (accepted-plan t ws .1 (exactly .0 e)) })
   where
     exactly : (n ≡ 0) ↔ AcceptedPlan t ws
-    exactly = zero-accepts (plan-refusal t ws) _ (AcceptedPlan t ws) (low-plan t ws) (accepted-plan t ws) a
+    exactly = zero-accepts (plan-refusal t ws) _ (AcceptedPlan t ws) (plan-numbers (Range 18) (λ k h. h) t ws) (accepted-plan t ws) a
 
     go : plan-refusal t ws ≡ none → CountClaims t ws (record { orders = x; stuck = y })
     go e = rw (a .first, a .second, e) (counts-claimed t ws e)
@@ -98,16 +99,14 @@ ending-range (next-too-long s e i j l) = (omega arith, omega arith)
 -- what an unfolding's answer can be
 abbrev UnfoldRange : Unfolded → Type 0
 UnfoldRange x =
-    ((k s z : ℕ) → x ≡ Stopped k s z → (34 ≤ k) × (k ≤ 36)) × ((f : Refusal) → x ≡ Not-unfolded f → (1 ≤ f .number) × (f .number ≤ 18))
+    ((k s z : ℕ) → x ≡ Stopped k s z → (34 ≤ k) × (k ≤ 36)) × ((f : Refusal) → x ≡ Not-unfolded f → RefusalNumber (f .number))
 
 unfolded-as : (x : Unfolded) → UnfoldRange x → {n p v w : ℕ} → Answered (unfold-report x) n p v w → UnfoldedAs x n p v w
 unfolded-as (Finished s z) r a = rw (a .number, a .place, a .first, a .second) (seen-as.UnfoldedAs.finished s z)
 unfolded-as (Stopped k s z) r a =
     let i = r .0 k s z refl in
     rw (a .number, a .place, a .first, a .second) (seen-as.UnfoldedAs.stopped k s z (i .0) (i .1))
-unfolded-as (Not-unfolded f) r a =
-    let i = r .1 f refl in
-    rw (a .number, a .place, a .first, a .second) (seen-as.UnfoldedAs.refused f (i .0) (i .1))
+unfolded-as (Not-unfolded f) r a = rw (a .number, a .place, a .first, a .second) (seen-as.UnfoldedAs.refused f (r .1 f refl))
 
 module _ (t : Tables) (plan : List ℕ) (m : ℕ) (list a b : List ℕ) where
   run-not-refused : (c : Bool) (r : Run) (f : Refusal)
@@ -115,18 +114,18 @@ module _ (t : Tables) (plan : List ℕ) (m : ℕ) (list a b : List ℕ) where
   run-not-refused true r f e = let z : _≡_ {A = ℕ} 0 1 = cc in omega arith
   run-not-refused false r f e = let z : _≡_ {A = ℕ} 0 1 = cc in omega arith
 
-  refused-low : (f : Refusal) → unfold-outcome t plan m list a b .answer ≡ Not-unfolded f → (1 ≤ f .number) × (f .number ≤ 18)
+  refused-number : (f : Refusal) → unfold-outcome t plan m list a b .answer ≡ Not-unfolded f → RefusalNumber (f .number)
   unfolding unfold-outcome
-  refused-low f = go (unfold-refusal t plan (capacity a b)) (run-of t plan m (length list) (capacity a b)) (low-unfold t plan (capacity a b))
+  refused-number f = go (unfold-refusal t plan (capacity a b)) (run-of t plan m (length list) (capacity a b)) (unfold-numbers t plan (capacity a b))
     where
-      go : (o : Option Refusal) (r : Run) → low? o ≡ true → unfolding-of.unless-refused o r list a b .answer ≡ Not-unfolded f → (1 ≤ f .number) × (f .number ≤ 18)
+      go : (o : Option Refusal) (r : Run) → Numbered RefusalNumber o → unfolding-of.unless-refused o r list a b .answer ≡ Not-unfolded f → RefusalNumber (f .number)
       go none r l e = absurd (run-not-refused (eqb (r .number) 0) r f e)
-      go (some g) r l e = let q : g ≡ f = cc in rw (← q) (low-range (g .number) l)
+      go (some g) r l e = let q : g ≡ f = cc in rw (← q) l
 
   unfold-range : (o : UnfoldOutcome) → o ≡ unfold-outcome t plan m list a b → UnfoldClaims (unfold-given t plan m list a b) o → UnfoldRange (o .answer)
   unfold-range o e k = (
     λ n s z q. ending-range (k .stopped-rightly n s z q),
-    λ f q. refused-low f (sym (ap (λ (x : UnfoldOutcome). x .answer) e) ∙ q),
+    λ f q. refused-number f (sym (ap (λ (x : UnfoldOutcome). x .answer) e) ∙ q),
   )
 
   pub unfold-as : (o : UnfoldOutcome) {n p v w : ℕ} → o ≡ unfold-outcome t plan m list a b → UnfoldClaims (unfold-given t plan m list a b) o → Answered (unfold-report (o .answer)) n p v w
@@ -143,16 +142,14 @@ module _ (t : Tables) (plan : List ℕ) (m : ℕ) (list a b : List ℕ) where
 -- what a check's answer can be
 abbrev CheckRange : Checked → Type 0
 CheckRange x =
-    ((k s z : ℕ) → x ≡ TurnedBack k s z → (31 ≤ k) × (k ≤ 33)) × ((f : Refusal) → x ≡ Not-checked f → (1 ≤ f .number) × (f .number ≤ 18))
+    ((k s z : ℕ) → x ≡ TurnedBack k s z → (31 ≤ k) × (k ≤ 33)) × ((f : Refusal) → x ≡ Not-checked f → RefusalNumber (f .number))
 
 checked-as : (x : Checked) → CheckRange x → {n p v w : ℕ} → Answered (check-report x) n p v w → CheckedAs x n p v w
 checked-as (Accepted s z) r a = rw (a .number, a .place, a .first, a .second) (seen-as.CheckedAs.accepted s z)
 checked-as (TurnedBack k s z) r a =
     let i = r .0 k s z refl in
     rw (a .number, a .place, a .first, a .second) (seen-as.CheckedAs.turned-back k s z (i .0) (i .1))
-checked-as (Not-checked f) r a =
-    let i = r .1 f refl in
-    rw (a .number, a .place, a .first, a .second) (seen-as.CheckedAs.refused f (i .0) (i .1))
+checked-as (Not-checked f) r a = rw (a .number, a .place, a .first, a .second) (seen-as.CheckedAs.refused f (r .1 f refl))
 
 module _ (t : Tables) (start claimed rewriting a b : List ℕ) where
   replay-range : (c : Bool) (r : Replay) → eqb (r .number) 0 ≡ c → ends? (r .number) ≡ true
@@ -171,24 +168,24 @@ module _ (t : Tables) (start claimed rewriting a b : List ℕ) where
   unfolding check-outcome replay-of
   check-range =
       go (check-refusal t start claimed rewriting (capacity a b)) (replay-of t start claimed rewriting (capacity a b))
-      (low-check t start claimed rewriting (capacity a b)) (replay-ends t (capacity a b) claimed (moves-of rewriting) 0 start [])
+      (check-numbers t start claimed rewriting (capacity a b)) (replay-ends t (capacity a b) claimed (records-of rewriting) 0 start [])
     where
-      go : (o : Option Refusal) (r : Replay) → low? o ≡ true → ends? (r .number) ≡ true → CheckRange (checking-of.unless-refused o r a b .answer)
+      go : (o : Option Refusal) (r : Replay) → Numbered RefusalNumber o → ends? (r .number) ≡ true → CheckRange (checking-of.unless-refused o r a b .answer)
       go none r l h = replay-range (eqb (r .number) 0) r refl h
       go (some g) r l h = (
         λ k s z e. let i : _≡_ {A = ℕ} 0 1 = cc in absurd (omega arith),
-        λ f e. let q : g ≡ f = cc in rw (← q) (low-range (g .number) l),
+        λ f e. let q : g ≡ f = cc in rw (← q) l,
       )
 
   check-as : (o : CheckOutcome) {n p v w : ℕ} → o ≡ check-outcome t start claimed rewriting a b → Answered (check-report (o .answer)) n p v w → CheckedAs (o .answer) n p v w
   check-as o e h = checked-as (o .answer) (subst (λ (x : CheckOutcome). CheckRange (x .answer)) (sym e) check-range) h
 
   pub check-seen : {x : Checked} {y z : List ℕ} {n p v w : ℕ} → record { answer = x; a = y; b = z } ≡ check-outcome t start claimed rewriting a b
-      → CheckClaims t start claimed x × StepClaims (check-given t start claimed rewriting a b) (record { answer = x; a = y; b = z }) → Answered (check-report x) n p v w
-      → CheckSeen (check-given t start claimed rewriting a b) n p v w × StepSeen (check-given t start claimed rewriting a b) y z n p v w
+      → CheckClaims (check-given t start claimed rewriting a b) (record { answer = x; a = y; b = z })
+      × StepClaims (check-given t start claimed rewriting a b) (record { answer = x; a = y; b = z }) → Answered (check-report x) n p v w
+      → CheckSeen (check-given t start claimed rewriting a b) y z n p v w
   check-seen {x} {y} {z} e k h =
-      let s = check-as (record { answer = x; a = y; b = z }) e h in
-      (record { answer = x; seen = s; claims = k .0 }, record { answer = x; seen = s; claims = k .1 })
+      record { answer = x; seen = check-as (record { answer = x; a = y; b = z }) e h; claims = k .0; single = k .1 }
 
 -- Both
 

@@ -2,7 +2,7 @@
 use Prim.Native.Nat.{ℕ}
 use native.Mathlib.Omega.{arith}
 use mathlib.Core.Path.{_≡_, refl, sym, ap}
-use mathlib.Core.Bool.{Bool, true, false, cond, _&&_}
+use mathlib.Core.Bool.{_&&_}
 use mathlib.Core.List.{List}
 use mathlib.Core.Option.{Option, none, some}
 use lib.ListN.{length}
@@ -21,31 +21,28 @@ use Rattle.texts.specs.Text.{found-refusal, plan-of, text-refusal, TextOutcome,
 use Rattle.texts.specs.Claims.{TextClaims}
 use Rattle.aberulwy_c.specs.Handing.{Answered}
 use Rattle.aberulwy_c.specs.Seen.{TextReadAs, read, refused, TextSeen}
-use Rattle.aberulwy_c.proofs.Numbers.{low-tables}
-use Rattle.aberulwy_c.proofs.Ranges.{Range, Ranges, ranges-or, ranges-low}
+use Rattle.aberulwy_c.proofs.Numbers.{table-numbers}
+use Rattle.aberulwy_c.proofs.Ranges.{Range, widened, Numbered, numbered-or, numbered-cond}
 
--- the highest refusal of a text
-abbrev highest : ℕ
-highest = 63
+-- the numbers of refusals of a text
+abbrev Number : ℕ → Type 0
+Number = Range 63
 
-range-found : (n area : ℕ) (text : List ℕ) (p : Parse) → read-text n text ≡ p → Ranges highest (found-refusal area p)
+range-found : (n area : ℕ) (text : List ℕ) (p : Parse) → read-text n text ≡ p → Numbered Number (found-refusal area p)
 range-found n area text (Fault k q) e = let i = read-number n text k q e in (omega (arith, i .0), omega (arith, i .1))
-range-found n area text (Plan w) e = fitting (leb (length w) area && leb (length w) most-words)
-  where
-    fitting : (b : Bool) → Ranges highest (cond b none (refuse 63 Nowhere))
-    fitting true = tt
-    fitting false = (omega arith, omega arith)
+range-found n area text (Plan w) e =
+    numbered-cond Number (leb (length w) area && leb (length w) most-words) none (refuse 63 Nowhere) tt (omega arith, omega arith)
 
 module _ (t : Tables) (text area : List ℕ) where
-  range : Ranges highest (text-refusal t text (length area))
+  range : Numbered Number (text-refusal t text (length area))
   unfolding text-refusal
-  range = ranges-or highest (table-refusal t) _ (ranges-low highest (omega arith) (table-refusal t) (low-tables t)) (range-found (actions t) (length area) text (read-text (actions t) text) refl)
+  range = numbered-or Number (table-refusal t) _ (table-numbers Number (widened 63 (omega arith)) t) (range-found (actions t) (length area) text (read-text (actions t) text) refl)
 
-  refused-range : (f : Refusal) → text-outcome t text area .answer ≡ Refused f → Range highest f
+  refused-range : (f : Refusal) → text-outcome t text area .answer ≡ Refused f → Number (f .number)
   unfolding text-outcome
   refused-range f = go (text-refusal t text (length area)) range
     where
-      go : (o : Option Refusal) → Ranges highest o → unless-refused o (plan-of (read-text (actions t) text)) area .answer ≡ Refused f → Range highest f
+      go : (o : Option Refusal) → Numbered Number o → unless-refused o (plan-of (read-text (actions t) text)) area .answer ≡ Refused f → Number (f .number)
       go none r e = let z : _≡_ {A = ℕ} 0 1 = cc in absurd (omega arith)
       go (some g) r e = let q : g ≡ f = cc in rw (← q) r
 

@@ -21,25 +21,25 @@ use Rattle.walks.specs.Claims.{FreshClaims, WalkClaims}
 use Rattle.aberulwy_c.specs.Answers.{Returned, lent, of-walk}
 use Rattle.aberulwy_c.specs.Handing.{WalkAnswered}
 use Rattle.aberulwy_c.specs.Seen.{WalkedAs, accepted, refused, FreshSeen, WalkSeen}
-use Rattle.aberulwy_c.proofs.Numbers.{low-plan}
-use Rattle.aberulwy_c.proofs.Ranges.{Range, Ranges, ranges-or, ranges-low, ranges-if}
+use Rattle.aberulwy_c.proofs.Numbers.{plan-numbers}
+use Rattle.aberulwy_c.proofs.Ranges.{Range, widened, Numbered, numbered-or, numbered-if}
 
--- the highest refusal of a walk
-abbrev highest : ℕ
-highest = 72
+-- the numbers of refusals of a walk
+abbrev Number : ℕ → Type 0
+Number = Range 72
 
-walk-ranges : (t : Tables) (plan marks : List ℕ) → Ranges highest (not-walkable-refusal t plan marks)
+walk-ranges : (t : Tables) (plan marks : List ℕ) → Numbered Number (not-walkable-refusal t plan marks)
 unfolding not-walkable-refusal
 walk-ranges t plan marks =
-    ranges-or highest (plan-refusal t plan) _ (ranges-low highest (omega arith) (plan-refusal t plan) (low-plan t plan))
-    (ranges-if highest (not (basic-words? (actions t) plan) || not (eqb (length marks) (length plan))) 70 (omega arith) (omega arith))
+    numbered-or Number (plan-refusal t plan) _ (plan-numbers Number (widened 72 (omega arith)) t plan)
+    (numbered-if Number (not (basic-words? (actions t) plan) || not (eqb (length marks) (length plan))) 70 (omega arith, omega arith))
 
 -- of an answer
 abbrev Answer-range : Judgement → Type 0
 Answer-range Accepted = Unit
-Answer-range (Refused f) = Range highest f
+Answer-range (Refused f) = Number (f .number)
 
-unless-range : (o : Option Refusal) (p : Progress) (x : WalkOutcome) → Ranges highest o → Answer-range (x .answer) → Answer-range (unless-refused o p x .answer)
+unless-range : (o : Option Refusal) (p : Progress) (x : WalkOutcome) → Numbered Number o → Answer-range (x .answer) → Answer-range (unless-refused o p x .answer)
 unless-range none p x r s = s
 unless-range (some f) p x r s = r
 
@@ -51,9 +51,9 @@ walk-range : (t : Tables) (plan : List ℕ) (m : ℕ) (p : Progress) → Answer-
 unfolding walk-outcome walk-refusal
 walk-range t plan m p =
     unless-range (walk-refusal t plan m p) p (accepted-outcome (or-keep (take-message (actions t) plan m p) p))
-    (ranges-or highest (not-walkable-refusal t plan (p .marks)) _ (walk-ranges t plan (p .marks))
-    (ranges-or highest (refuse-if (outside? (actions t) m) 71) _ (ranges-if highest (outside? (actions t) m) 71 (omega arith) (omega arith))
-    (ranges-if highest (not-taken? (take-message (actions t) plan m p)) 72 (omega arith) (omega arith)))) tt
+    (numbered-or Number (not-walkable-refusal t plan (p .marks)) _ (walk-ranges t plan (p .marks))
+    (numbered-or Number (refuse-if (outside? (actions t) m) 71) _ (numbered-if Number (outside? (actions t) m) 71 (omega arith, omega arith))
+    (numbered-if Number (not-taken? (take-message (actions t) plan m p)) 72 (omega arith, omega arith)))) tt
 
 walked-as : (x : Judgement) → Answer-range x → {b : Bool} {h n p f : ℕ} → WalkAnswered x b h n p f → WalkedAs x n p
 walked-as Accepted r a = rw (a .number, a .place) accepted

@@ -1,5 +1,5 @@
 -- What is claimed of the calls for C and Rust: the claims of the calls below, of the answer that the numbers seen tell. (Demands 2, 3; requests
--- 101 to 103, 105, 106.)
+-- 101 to 103, 105, 106, 108.)
 use Prim.Native.Nat.{ℕ, _≤_}
 use mathlib.Core.Path.{_≡_}
 use mathlib.Core.Bool.{Bool}
@@ -43,17 +43,25 @@ pub record OrdersSeen (tables : Tables) (plan : List ℕ) (number orders stuck :
   pub counted-exactly : (number ≡ 0) ↔ AcceptedPlan tables plan
   pub counts : number ≡ 0 → CountClaims tables plan (record { orders = orders; stuck = stuck })
 
--- An unfolding's answer by the number answered and the place, steps and size set: 0 is finished, 34 to 36 are the endings, 1 to 18 are refusals.
+-- 01 has two sections of numbers. "Turned back by how far it had come" has 31 to 36, the numbers of endings.
+abbrev pub EndingNumber : ℕ → Type 0
+EndingNumber k = (31 ≤ k) × (k ≤ 36)
+
+-- "Turned back by what was handed in" has the others, those of refusals; requests add to it (61 to 63, 70 to 75).
+abbrev pub RefusalNumber : ℕ → Type 0
+RefusalNumber k = (1 ≤ k) × (EndingNumber k → ⊥)
+
+-- An unfolding's answer by the number answered and the place, steps and size set: 0 is finished, and of the endings 34 to 36 are its own.
 pub data UnfoldedAs : Unfolded → ℕ → ℕ → ℕ → ℕ → Type 0 where
   finished : (steps size : ℕ) → UnfoldedAs (Finished steps size) 0 0 steps size
   stopped : (number steps size : ℕ) → 34 ≤ number → number ≤ 36 → UnfoldedAs (Stopped number steps size) number 0 steps size
-  refused : (f : Refusal) → 1 ≤ f .number → f .number ≤ 18 → UnfoldedAs (Not-unfolded f) (f .number) (printed (f .place)) 0 0
+  refused : (f : Refusal) → RefusalNumber (f .number) → UnfoldedAs (Not-unfolded f) (f .number) (printed (f .place)) 0 0
 
--- A check's answer by the same numbers: 0 is accepted, 31 to 33 say how far it had come, 1 to 18 are refusals.
+-- A check's answer by the same numbers: 0 is accepted, and of the endings 31 to 33 are its own.
 pub data CheckedAs : Checked → ℕ → ℕ → ℕ → ℕ → Type 0 where
   accepted : (steps size : ℕ) → CheckedAs (Accepted steps size) 0 0 steps size
   turned-back : (number steps size : ℕ) → 31 ≤ number → number ≤ 33 → CheckedAs (TurnedBack number steps size) number 0 steps size
-  refused : (f : Refusal) → 1 ≤ f .number → f .number ≤ 18 → CheckedAs (Not-checked f) (f .number) (printed (f .place)) 0 0
+  refused : (f : Refusal) → RefusalNumber (f .number) → CheckedAs (Not-checked f) (f .number) (printed (f .place)) 0 0
 
 -- The check of an unfolding's own rewriting by whether it was made, then the same numbers.
 pub data OwnAs : OwnCheck → ℕ → ℕ → ℕ → ℕ → ℕ → Type 0 where
@@ -98,17 +106,12 @@ pub record UnfoldSeen (given : UnfoldGiven) (list a b : List ℕ) (number place 
   pub seen : UnfoldedAs answer number place steps size
   pub claims : UnfoldClaims given (record { answer = answer; list = list; a = a; b = b })
 
--- Of a check.
-pub record CheckSeen (given : CheckGiven) (number place steps size : ℕ) : Type 0 where
+-- Of a check that left these areas, and of a check of a single step.
+pub record CheckSeen (given : CheckGiven) (a b : List ℕ) (number place steps size : ℕ) : Type 0 where
   pub answer : Checked
   pub seen : CheckedAs answer number place steps size
-  pub claims : CheckClaims (given .tables) (given .start) (given .claimed) answer
-
--- Of a check of a single step that left these areas.
-pub record StepSeen (given : CheckGiven) (a b : List ℕ) (number place steps size : ℕ) : Type 0 where
-  pub answer : Checked
-  pub seen : CheckedAs answer number place steps size
-  pub claims : StepClaims given (record { answer = answer; a = a; b = b })
+  pub claims : CheckClaims given (record { answer = answer; a = a; b = b })
+  pub single : StepClaims given (record { answer = answer; a = a; b = b })
 
 -- The numbers that an unfolding with the check of its own rewriting answers and sets.
 pub record BothNumbers : Type 0 where

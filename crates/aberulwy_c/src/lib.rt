@@ -36,7 +36,7 @@ ghost use Rattle.aberulwy_c.specs.Answers.{Returned, returned, HandedOve
 ghost use Rattle.aberulwy_c.specs.Answers.{unfold-returned, check-returned, both-returned, station-returned, written-returned, text-returned};
 ghost use Rattle.aberulwy_c.specs.Answers.{fresh-returned, walk-returned, fixed-returned};
 ghost use Rattle.aberulwy_c.specs.Handing.{Answered, MaybeAnswered, WalkAnswered};
-ghost use Rattle.aberulwy_c.specs.Seen.{OrdersSeen, UnfoldSeen, CheckSeen, StepSeen, OwnSeen, TextSeen, FreshSeen, WalkSeen};
+ghost use Rattle.aberulwy_c.specs.Seen.{OrdersSeen, UnfoldSeen, CheckSeen, OwnSeen, TextSeen, FreshSeen, WalkSeen};
 ghost use Rattle.aberulwy_c.specs.Seen.{PrecedenceSeen, StationReadSeen, StationWrittenSeen, FormSeen};
 
 // Answers a refusal's number and sets its place.
@@ -347,8 +347,8 @@ pub extern "C" fn aberulwy_reached<'a>(
     hand_over(part, plan, copied)
 }
 
-// Checks a rewriting: 0 where it is accepted, or 31 to 33, with the steps made and the length of the plan reached; or the number of the refusal
-// and its place.
+// Checks a rewriting, whose records are steps from left to right or from right to left: 0 where it is accepted, or 31 to 33, with the steps made and the
+// length of the plan reached; or the number of the refusal (1 to 8, 11 to 18, 75) and its place.
 #[no_mangle]
 pub extern "C" fn aberulwy_check_rewriting(
     tables: &[u8],
@@ -371,10 +371,6 @@ pub extern "C" fn aberulwy_check_rewriting(
         (check-returned (now (tables .entry)) (now (start .entry)) (now (claimed .entry)) (now (rewriting .entry))
         (now (a .entry)) (now (b .entry))) ⌝ }
     ensures claims { λ r. ⌜ CheckSeen
-        (check-given (now (tables .entry)) (now (start .entry)) (now (claimed .entry)) (now (rewriting .entry))
-        (now (a .entry)) (now (b .entry)))
-        r (now (place .exit)) (now (steps .exit)) (now (size .exit)) ⌝ }
-    ensures single { λ r. ⌜ StepSeen
         (check-given (now (tables .entry)) (now (start .entry)) (now (claimed .entry)) (now (rewriting .entry))
         (now (a .entry)) (now (b .entry)))
         (now (a .exit)) (now (b .exit)) r (now (place .exit)) (now (steps .exit)) (now (size .exit)) ⌝ }

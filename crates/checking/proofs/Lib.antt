@@ -1,4 +1,6 @@
-pub mod Replaying
+pub mod Fitting
+pub mod Accepting
+pub mod Good
 mod Judging
 mod Turning
 mod Settling

@@ -11,13 +11,13 @@ use Rattle.tables.specs.Tables.{Tables}
 use Rattle.laws.specs.Laws.{same-bytes}
 use Rattle.areas.specs.Reached.{area-a, area-b}
 use Rattle.areas.specs.Storing.{before, Stored}
-use Rattle.rewritings.specs.Records.{moves-of}
 use Rattle.steps.specs.Working.{plan-in}
 use Rattle.checking.specs.declared.Checked.{Checked}
 use Rattle.checking.specs.declared.Checked.the-variants.{Accepted, TurnedBack}
 use Rattle.checking.specs.declared.Last.{Last}
-use Rattle.checking.specs.Checking.{CheckOutcome, Replay, replay-of, checked, settled}
+use Rattle.checking.specs.Checking.{CheckOutcome, Replay, checked, settled, replay-of}
 use Rattle.checking.specs.Turns.{compared, Replayed}
+use Rattle.rewritings.specs.Records.{records-of}
 
 -- the plan stands first in its area
 area-plan : (even : Bool) (w v : List ℕ) (m n : ℕ) → take (length w) (cond even (area-a even w v m) (area-b even w v n)) ≡ w
@@ -37,7 +37,7 @@ ended claimed left right old r =
 
 -- the outcome of a check, where the rewriting is replayed and the plans are stored
 module _ (t : Tables) (c : ℕ) (start claimed rewriting w v : List ℕ) (left starts right old : List ℕ) (r : Last) (a b a′ b′ : List ℕ) (size : ℕ)
-    (is-w : w ≡ start) (is-v : v ≡ []) (p : Replayed t c (moves-of rewriting) 0 w v left starts right old r)
+    (is-w : w ≡ start) (is-v : v ≡ []) (p : Replayed t c (records-of rewriting) 0 w v left starts right old r)
     (q : Stored a b a′ b′ (r .state .made) (plan-in left right (r .state)) old size) where
   pub reached-plan : take size (cond (r .state .made .even) a′ b′) ≡ plan-in left right (r .state)
   reached-plan = rw (q .in-a, q .in-b, q .plan-size) (area-plan (r .state .made .even) (plan-in left right (r .state)) _ (length a) (length b))

@@ -15,7 +15,6 @@ use Rattle.refusals.proofs.Judging.{none-of-both}
 use Rattle.areas.specs.Area.{padded, most-words}
 use Rattle.areas.specs.Reached.{capacity, even?, area-a, area-b, reached-part}
 use Rattle.tables.specs.Tables.{Tables, actions}
-use Rattle.tables.proofs.Lawful.{accepted-iff-lawful}
 use Rattle.plans.specs.Judging.{plan-refusal, words-refusal}
 use Rattle.plans.specs.Basic.{Basic}
 use Rattle.plans.specs.Accepted.{AcceptedPlan, BasicPlan}
@@ -25,18 +24,21 @@ use Rattle.trees.specs.Meaning.{AlikePlans}
 use Rattle.laws.specs.Step.{step}
 use Rattle.laws.proofs.Stepping.{chain-alike}
 use Rattle.laws.proofs.Normal.{no-step-iff-basic}
-use Rattle.rewritings.specs.Records.{bytes-of}
-use Rattle.rewritings.proofs.Bytes.{moves-bytes, bytes-whole}
+use Rattle.rewritings.specs.Moves.{bytes-of}
+use Rattle.rewritings.proofs.Bytes.{Lawed-all, forwards, forwards-cut}
 use Rattle.rewritings.proofs.Choosing.{none-fits, fits-none}
 use Rattle.unfolding.specs.declared.Unfolded.{Unfolded}
 use Rattle.unfolding.specs.declared.Unfolded.the-variants.{Finished, Stopped, Refused}
 use Rattle.rewritings.specs.Runs.{Run, run-of}
 use Rattle.unfolding.specs.Unfolding.{unfolded, unfold-refusal, unfold-outcome, unless-refused}
 use Rattle.checking.specs.declared.Checked.the-variants.{Accepted}
-use Rattle.checking.specs.Checking.{replay-of, rewriting-refusal, check-refusal, check-outcome}
-use Rattle.checking.proofs.Replaying.{accepted-alike}
+use Rattle.checking.specs.Checking.{replay-of, records-refusal, rewriting-refusal, check-refusal, check-outcome}
+use Rattle.checking.proofs.Accepting.{accepted-alike}
 use Rattle.demands.specs.Claims.{Reports, finished, stopped, own-rewriting, UnfoldClaims, CheckClaims}
-use Rattle.demands.proofs.Running.{Followed, run-followed, run-records-long, run-ends, ends-finished, ends-stopped}
+use Rattle.demands.proofs.Deriving.{words-accepted, accepted-exactly}
+use Rattle.demands.proofs.Forward.{forward-as-before}
+use Rattle.demands.proofs.Reversing.{reversed-accepted, reversed-bytes}
+use Rattle.demands.proofs.Running.{left-none, Followed, run-followed, run-records-long, run-ends, ends-finished, ends-stopped}
 use Rattle.laws.specs.Laws.{highest-law, first-choice}
 
 pub take-padded : (w : List ℕ) (n : ℕ) → take (length w) (padded w n) ≡ w
@@ -81,14 +83,16 @@ module _ (t : Tables) (plan : List ℕ) (m l c : ℕ) (p : AcceptedPlan t plan) 
   reached-ok = reached-all .1 (omega (arith, F .fits held))
 
   pub reached-accepted : AcceptedPlan t (R .plan)
-  reached-accepted = accepted-plan t (R .plan) .0 (plan-accepted-iff t (R .plan) .1 (accepted-iff-lawful t .1 (p .lawful), reached-ok))
+  reached-accepted = words-accepted t (p .lawful) (R .plan) reached-ok
 
   -- the own rewriting is whole, and its replay in areas that hold as much accepts
   own-accepted : (a b : List ℕ) → capacity a b ≡ c
       → check-outcome t plan (R .plan) (bytes-of (R .moves)) a b .answer ≡ Accepted (R .steps) (length (R .plan))
-  unfolding check-outcome check-refusal rewriting-refusal replay-of
+  unfolding check-outcome check-refusal rewriting-refusal records-refusal replay-of
   own-accepted a b h =
-      rw (h, plan-ok, reached-ok, le-ltb c (length plan) held, bytes-whole (R .moves), moves-bytes (R .moves), F .is-own, F .known 0, F .replays)
+      let lawed : Lawed-all (forwards (R .moves)) = rw (F .is-own) (F .lawed) in
+      let cut = forwards-cut (R .moves) lawed in
+      rw (h, plan-ok, reached-ok, le-ltb c (length plan) held, cut .1, cut .0, F .is-own, F .known 0, left-none (actions t) 0 (F .own), F .replays)
 
   no-law : (x : AcceptedPlan t (R .plan)) → ((i k : ℕ) → i < length (R .plan) → first-choice ≤ k → k ≤ highest-law → step t k i (R .plan) ≡ none) ↔ Basic (x .term)
   no-law x = no-step-iff-basic t (p .lawful .well-formed .few-actions) (R .plan) (x .term) (accepted-reads-as t (R .plan) x)
@@ -232,5 +236,12 @@ module _ (t : Tables) (plan : List ℕ) (m : ℕ) (list a b : List ℕ) where
   unfold-claims = unfold-claims-by (unfold-refusal t plan (capacity a b)) refl
 
 pub check-claims : (t : Tables) (start claimed rewriting a b : List ℕ)
-    → CheckClaims t start claimed (check-outcome t start claimed rewriting a b .answer)
-check-claims t start claimed rewriting a b = record { accepted-alike = accepted-alike t start claimed rewriting a b }
+    → CheckClaims (record { tables = t; start = start; claimed = claimed; rewriting = rewriting; a = a; b = b }) (check-outcome t start claimed rewriting a b)
+check-claims t start claimed rewriting a b =
+    record {
+      accepted-exactly = accepted-exactly t start claimed rewriting a b;
+      accepted-alike = accepted-alike t start claimed rewriting a b;
+      forward-as-before = λ h. forward-as-before t start claimed rewriting h a b;
+      reversed-accepted = λ k z e. reversed-accepted t start claimed rewriting a b k z e;
+      reversed-bytes = λ k z e. reversed-bytes t start claimed rewriting a b k z e;
+    }

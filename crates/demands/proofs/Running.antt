@@ -13,14 +13,21 @@ use borrow.Author.Tests.{ltb-true, ltb-false, le-ltb, le-leb}
 use Rattle.tables.specs.Tables.{Tables}
 use Rattle.plans.proofs.Options.{never}
 use Rattle.laws.specs.Step.{Rewrites, no-step, step-then}
-use Rattle.rewritings.specs.Records.{Move, bytes-of}
+use Rattle.rewritings.specs.Moves.{Move, bytes-of}
 use Rattle.rewritings.specs.Choice.{Found, next-step}
-use Rattle.rewritings.proofs.Bytes.{bytes-long}
+use Rattle.rewritings.proofs.Moves.{bytes-long}
+use Rattle.rewritings.proofs.Bytes.{Lawed-all, forwards}
 use Rattle.rewritings.proofs.Choosing.{Taken, next-taken}
 use Rattle.rewritings.specs.Runs.{Run, move, run, run-of, on-found, stop-if}
-use Rattle.checking.specs.Checking.{replay, unknown-law}
-use Rattle.checking.proofs.Replaying.{same-itself}
+use Rattle.checking.specs.Checking.{step-of, replay, unknown-law, left-refusal}
+use Rattle.laws.proofs.Sound.{same-itself}
 use Rattle.demands.specs.Claims.{Stops, allowance-spent, list-full, next-too-long}
+
+-- steps from left to right carry nothing that could be refused
+pub left-none : (n i : ℕ) (ms : List Move) → left-refusal n i (forwards ms) ≡ none
+unfolding left-refusal forwards
+left-none n i [] = refl
+left-none n i (m ∷ ms) = left-none n (suc i) ms
 
 -- how a run ends: no law fits, or it stops where one does
 pub data Ends (t : Tables) (allowance room c : ℕ) (plan : List ℕ) (steps : ℕ) : ℕ → Type 0 where
@@ -33,9 +40,10 @@ pub record Followed (t : Tables) (c m room k : ℕ) (w v : List ℕ) (r : List M
   pub own : List Move
   pub is-own : R .moves ≡ r ++ own
   -- the replay of those, to the plan reached, accepts
-  pub replays : replay t c (R .plan) own k w v ≡ record { number = 0; steps = R .steps; plan = R .plan; before = R .before }
+  pub replays : replay t c (R .plan) (forwards own) k w v ≡ record { number = 0; steps = R .steps; plan = R .plan; before = R .before }
   -- all their laws are known
-  pub known : (i : ℕ) → unknown-law i own ≡ none
+  pub known : (i : ℕ) → unknown-law i (forwards own) ≡ none
+  pub lawed : Lawed-all (forwards own)
   -- they are as many as are counted, and the list holds them
   pub counted : k + length own ≡ R .steps
   pub held : 3 * length own ≤ room
@@ -52,13 +60,14 @@ module _ (t : Tables) (c : ℕ) where
   -- a run that ends at once
   ended : (number m room k : ℕ) (w v : List ℕ) (r : List Move) → Ends t (m + k) (room + 3 * k) c w k number
       → Followed t c m room k w v r (Stop number k w v r)
-  unfolding replay unknown-law
+  unfolding replay unknown-law forwards
   ended number m room k w v r e =
       record {
         own = [];
         is-own = sym (append-nil r);
         replays = rw (same-itself w);
         known = λ i. refl;
+        lawed = tt;
         counted = omega arith;
         held = omega arith;
         fits = λ h. h;
@@ -72,13 +81,17 @@ module _ (t : Tables) (c : ℕ) where
     taken : Taken t w s
     taken = next-taken t w s e
 
-    replays-all : replay t c (R .plan) (move s ∷ F .own) k w v ≡ record { number = 0; steps = R .steps; plan = R .plan; before = R .before }
-    unfolding replay
+    replays-all : replay t c (R .plan) (forwards (move s ∷ F .own)) k w v ≡ record { number = 0; steps = R .steps; plan = R .plan; before = R .before }
+    unfolding replay step-of forwards
     replays-all = rw (taken .fits, le-ltb c (length (s .plan)) short) (F .replays)
 
-    known-all : (i : ℕ) → unknown-law i (move s ∷ F .own) ≡ none
-    unfolding unknown-law
+    known-all : (i : ℕ) → unknown-law i (forwards (move s ∷ F .own)) ≡ none
+    unfolding unknown-law forwards
     known-all i = rw (le-leb 1 (s .law) (omega (arith, taken .low)), le-leb (s .law) 32 (taken .high)) (F .known (suc i))
+
+    lawed-all : Lawed-all (forwards (move s ∷ F .own))
+    unfolding forwards
+    lawed-all = ((omega (arith, taken .low), taken .high), F .lawed)
 
     ends-all : Ends t (suc m + k) (room + 3 * k) c (R .plan) (R .steps) (R .number)
     ends-all =
@@ -92,6 +105,7 @@ module _ (t : Tables) (c : ℕ) where
           is-own = F .is-own ∙ append-assoc r (move s ∷ []) (F .own);
           replays = replays-all;
           known = known-all;
+          lawed = lawed-all;
           counted = omega (arith, F .counted);
           held = omega (arith, F .held);
           fits = λ h. F .fits short;

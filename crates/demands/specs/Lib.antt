@@ -1,1 +1,3 @@
+pub mod Former
+pub mod Reversed
 pub mod Claims

@@ -7,4 +7,5 @@ pub mod Places
 pub mod Normal
 pub mod Tests
 pub mod Fits
+pub mod Backward
 pub mod Numbers

@@ -6,7 +6,7 @@ use mathlib.Core.Bool.{true, false≢true, and-eq-true-iff}
 use mathlib.Core.List.{List, [], _∷_}
 use mathlib.Core.Option.{some}
 use lib.Dec.{eqb}
-use borrow.Author.Tests.{eqb-true, not-true}
+use borrow.Author.Tests.{eqb-true, eq-eqb, not-true}
 use Rattle.tables.specs.Tables.{Tables, actions, communication, below, blocked}
 use Rattle.tables.specs.Lawful.{Lawful}
 use Rattle.plans.specs.Term.{Term, Over}
@@ -28,6 +28,11 @@ same-list [] [] e = refl
 same-list [] (c ∷ m) e = absurd (false≢true e)
 same-list (c ∷ l) [] e = absurd (false≢true e)
 same-list (c ∷ l) (d ∷ m) e = cc (eqb-true c d (and-eq-true-iff (eqb c d) _ .0 e .0), same-list l m (and-eq-true-iff (eqb c d) _ .0 e .1))
+
+pub same-itself : (l : List ℕ) → same-bytes l l ≡ true
+unfolding same-bytes
+same-itself [] = refl
+same-itself (c ∷ l) = rw (eq-eqb c c refl, same-itself l)
 
 -- a property of every law of a list, and of law k
 abbrev All : (Law → Type 0) → List Law → Type 0

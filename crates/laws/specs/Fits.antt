@@ -1,11 +1,12 @@
--- What it is for a law to fit a plan, as people read it. (Demand 2.) `rewrite` and `step` compute just this: proofs Fits `rewrite-iff`, `step-iff`.
+-- What it is for a law to fit a plan, as people read it. (Demand 2; request 108.) `rewrite`, `step` and `step-back` compute just this: proofs Fits
+-- `rewrite-iff`, `step-iff`, Backward `back-iff`.
 use Prim.Native.Nat.{ℕ, _≤_}
 use mathlib.Core.Path.{_≡_}
 use mathlib.Core.Bool.{true}
 use mathlib.Core.List.{List}
 use mathlib.Core.Option.{some}
 use Rattle.tables.specs.Tables.{Tables, actions}
-use Rattle.plans.specs.Term.{Term, act}
+use Rattle.plans.specs.Term.{Term, act, term-of}
 use Rattle.plans.specs.Place.{subterm, replace}
 use Rattle.laws.specs.Laws.{Law, Binding, unbound, bind, holds, build, law-at, highest-law}
 
@@ -39,3 +40,15 @@ pub record FitsAt (t : Tables) (k p : ℕ) (ws vs : List ℕ) : Type 0 where
   pub there : subterm (actions t) ws p ≡ some subplan
   pub fits : Fits t (law-at k) subplan side
   pub put-in : replace ws p subplan side ≡ vs
+
+-- law k fits backwards at place p of a plan's words with a left side: its words are a plan, the law makes of that "exactly the subplan at the place",
+-- and in vs "the whole left side then replaces it"
+pub record FitsBackAt (t : Tables) (k p : ℕ) (left ws vs : List ℕ) : Type 0 where
+  pub first : 1 ≤ k
+  pub last : k ≤ highest-law
+  pub carried : Term
+  pub subplan : Term
+  pub reads : term-of (actions t) left ≡ some carried
+  pub there : subterm (actions t) ws p ≡ some subplan
+  pub fits : Fits t (law-at k) carried subplan
+  pub put-in : replace ws p subplan carried ≡ vs

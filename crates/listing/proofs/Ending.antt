@@ -7,17 +7,17 @@ use mathlib.Core.List.{List}
 use lib.ListN.{length, take, length-take}
 use Rattle.plans.specs.declared.Counts.{Counts}
 use Rattle.plans.specs.Orders.{counts-of}
-use Rattle.rewritings.specs.Records.{moves-of}
+use Rattle.rewritings.specs.Moves.{Move}
 use Rattle.areas.specs.Reached.{reached-part}
 use Rattle.listing.specs.Listing.{first-line, words-line, step-lines, ending}
 use Rattle.listing.specs.Writing.{Wrote}
 use Rattle.listing.proofs.Writing.{left-all, left-less, left-last}
 
-pub wrote-ending : {out d d′ d″ : List ℕ} {next next′ last : ℕ} (n e s : ℕ) (counts : Counts) (plan rs : List ℕ) → counts ≡ counts-of n plan
-    → Wrote out 0 (first-line e s (length plan) counts) d next → Wrote d next (words-line plan) d′ next′ → Wrote d′ next′ (step-lines (moves-of rs)) d″ last
-    → take last d″ ≡ ending n e s plan rs
+pub wrote-ending : {out d d′ d″ : List ℕ} {next next′ last : ℕ} (n e s : ℕ) (counts : Counts) (plan : List ℕ) (moves : List Move) → counts ≡ counts-of n plan
+    → Wrote out 0 (first-line e s (length plan) counts) d next → Wrote d next (words-line plan) d′ next′ → Wrote d′ next′ (step-lines moves) d″ last
+    → take last d″ ≡ ending n e s plan moves
 unfolding ending
-wrote-ending {out} n e s counts plan rs q f w t =
+wrote-ending {out} n e s counts plan moves q f w t =
     left-last (left-less (left-less (left-all out 0 _) (rw q at f)) w) t .so-far
 
 pub part-short : (e : Bool) (size m : ℕ) (a b : List ℕ) → length a ≡ m → length b ≡ m → length (reached-part e size a b) ≤ m

@@ -6,7 +6,7 @@ use lib.ListN.{length, getD, length-append}
 use Rattle.refusals.specs.declared.Refusal.{Refusal}
 use Rattle.refusals.specs.Refusal.{printed}
 use Rattle.plans.specs.declared.Counts.{Counts}
-use Rattle.rewritings.specs.Records.{moves-of}
+use Rattle.rewritings.specs.Moves.{moves-of}
 use Rattle.listing.specs.Text.{decimal, labelled, line-end, space, ascii}
 use Rattle.listing.specs.Listing.{first-line, further-words, words-line, step-line, step-lines, refused-line}
 use Rattle.listing.proofs.Decimal.{decimal-count, decimal-short, labelled-length}

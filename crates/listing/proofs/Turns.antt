@@ -1,4 +1,4 @@
--- What is left of the words and of the records, word after word and record after record.
+-- What is left of the words and of the steps, word after word and step after step.
 use Prim.Native.Nat.{ℕ, suc, _+_, _*_, _≤_, _<_}
 use native.Mathlib.Omega.{arith}
 use native.Mathlib.Numerals.{add-one}
@@ -6,10 +6,7 @@ use mathlib.Core.Path.{_≡_, refl}
 use mathlib.Core.List.{List, [], _∷_, _++_, append-assoc}
 use lib.ListN.{length, getD, drop, length-drop, drop-of-length-le}
 use lib.Seq.{drop-cons}
-use Rattle.rewritings.specs.declared.Record.the-variants.{Step, End}
-use Rattle.rewritings.specs.Records.{moves-of}
-use Rattle.rewritings.specs.Reading.{record-at}
-use Rattle.rewritings.proofs.Cutting.{moves-end, moves-step}
+use Rattle.rewritings.specs.Moves.{moves-of}
 use Rattle.listing.specs.Text.{labelled, line-end, space}
 use Rattle.listing.specs.Listing.{further-words, words-line, step-line, step-lines}
 
@@ -35,16 +32,27 @@ pub words-end : (ws : List ℕ) (i : ℕ) → length ws ≤ i → words-left ws 
 unfolding further-words
 words-end ws i h = rw (drop-of-length-le ws h)
 
--- the records from byte i on
+-- the steps recorded from byte i on
 abbrev pub steps-left : List ℕ → ℕ → List ℕ
 steps-left rs i = step-lines (moves-of (drop i rs))
 
--- a step read there
-pub steps-turn : (rs : List ℕ) (i law place next : ℕ) → Step law place next ≡ record-at rs i → steps-left rs i ≡ step-line law place ++ steps-left rs next
-unfolding step-lines
-steps-turn rs i law place next e = rw (moves-step rs i law place next e .moves)
+pub steps-turn : (rs : List ℕ) (i : ℕ) → i + 2 < length rs
+    → steps-left rs i ≡ step-line (getD rs i 0) (getD rs (i + 1) 0 + 256 * getD rs (i + 2) 0) ++ steps-left rs (i + 3)
+unfolding step-lines moves-of
+steps-turn rs i h =
+    let a : i + 1 ≡ suc i = omega arith in
+    let b : i + 2 ≡ suc (suc i) = omega arith in
+    let d : i + 3 ≡ suc (suc (suc i)) = omega arith in
+    rw (a, b, d, drop-cons rs i 0 (omega arith), drop-cons rs (suc i) 0 (omega arith), drop-cons rs (suc (suc i)) 0 (omega arith))
 
--- the end read there
-pub steps-end : (rs : List ℕ) (i : ℕ) → End ≡ record-at rs i → steps-left rs i ≡ []
+-- one or two bytes are no step
+few-bytes : (l : List ℕ) → length l ≤ 2 → moves-of l ≡ []
+unfolding moves-of
+few-bytes [] h = refl
+few-bytes (k ∷ []) h = refl
+few-bytes (k ∷ (l ∷ [])) h = refl
+few-bytes (k ∷ (l ∷ (x ∷ r))) h = absurd (omega arith)
+
+pub steps-end : (rs : List ℕ) (i : ℕ) → length rs ≤ i + 2 → steps-left rs i ≡ []
 unfolding step-lines
-steps-end rs i e = rw (moves-end rs i e)
+steps-end rs i h = rw (few-bytes (drop i rs) (omega (arith, length-drop i rs)))

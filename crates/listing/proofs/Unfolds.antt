@@ -12,7 +12,8 @@ use Rattle.refusals.specs.declared.Refusal.{Refusal}
 use Rattle.areas.specs.Area.{padded, most-words}
 use Rattle.tables.specs.Tables.{Tables, actions}
 use Rattle.areas.specs.Reached.{capacity, even?, area-a, area-b, reached-part}
-use Rattle.rewritings.specs.Records.{bytes-of}
+use Rattle.rewritings.specs.Moves.{Move, bytes-of, moves-of}
+use Rattle.rewritings.proofs.Moves.{moves-bytes}
 use Rattle.unfolding.specs.declared.Unfolded.{Unfolded}
 use Rattle.unfolding.specs.declared.Unfolded.the-variants.{Finished, Stopped, Refused}
 use Rattle.rewritings.specs.Runs.{Run, run-of}
@@ -54,7 +55,7 @@ not-ended g stopped e = let z : _≡_ {A = ℕ} 0 1 = cc in omega arith
 pub record Prints (t : Tables) (plan l y z : List ℕ) (n s k : ℕ) : Type 0 where
   pub few : actions t ≤ 31
   pub long : 3 * s ≤ 15000
-  pub text : plan-listing t plan ≡ ending (actions t) n s (reached-part (even? s) k y z) (own-rewriting s l)
+  pub text : plan-listing t plan ≡ ending (actions t) n s (reached-part (even? s) k y z) (moves-of (own-rewriting s l))
 
 module _ (t : Tables) (plan list a b : List ℕ) (hl : length list ≡ 15000) (ha : length a ≡ 8192) (hb : length b ≡ 8192) where
   abbrev R : Run
@@ -93,7 +94,11 @@ module _ (t : Tables) (plan list a b : List ℕ) (hl : length list ≡ 15000) (h
       → y ≡ area-a (even? (R .steps)) (R .plan) (R .before) (length a) → z ≡ area-b (even? (R .steps)) (R .plan) (R .before) (length b) → Prints t plan l y z n s k
   unfolding plan-listing
   settled-listing {l} {y} {z} {n} {s} {k} h m el ey ez =
-      let o : own-rewriting s l ≡ bytes-of (R .moves) = ap (λ (j : ℕ). own-rewriting j l) (m .steps) ∙ ap (λ (j : List ℕ). own-rewriting (R .steps) j) el ∙ own-is in
+      let o : moves-of (own-rewriting s l) ≡ R .moves =
+      ap (λ (j : ℕ). moves-of (own-rewriting j l)) (m .steps)
+      ∙ ap (λ (j : List ℕ). moves-of (own-rewriting (R .steps) j)) el
+      ∙ ap moves-of own-is
+      ∙ moves-bytes (R .moves) in
       let p : reached-part (even? s) k y z ≡ R .plan =
       ap (λ (j : ℕ). reached-part (even? j) k y z) (m .steps)
       ∙ ap (λ (j : ℕ). reached-part (even? (R .steps)) j y z) (m .size)
@@ -104,10 +109,10 @@ module _ (t : Tables) (plan list a b : List ℕ) (hl : length list ≡ 15000) (h
         few = few-of h;
         long = omega (arith, run-held t plan 5000 15000 8192, m .steps);
         text = ap (λ (j : Option Refusal). listing-of.unless-refused j (listing-of.run-listing t R)) h
-            ∙ ap (λ (j : ℕ). ending (actions t) j (R .steps) (R .plan) (bytes-of (R .moves))) (sym (m .number))
-            ∙ ap (λ (j : ℕ). ending (actions t) n j (R .plan) (bytes-of (R .moves))) (sym (m .steps))
-            ∙ ap (λ (j : List ℕ). ending (actions t) n s j (bytes-of (R .moves))) (sym p)
-            ∙ ap (λ (j : List ℕ). ending (actions t) n s (reached-part (even? s) k y z) j) (sym o);
+            ∙ ap (λ (j : ℕ). ending (actions t) j (R .steps) (R .plan) (R .moves)) (sym (m .number))
+            ∙ ap (λ (j : ℕ). ending (actions t) n j (R .plan) (R .moves)) (sym (m .steps))
+            ∙ ap (λ (j : List ℕ). ending (actions t) n s j (R .moves)) (sym p)
+            ∙ ap (λ (j : List Move). ending (actions t) n s (reached-part (even? s) k y z) j) (sym o);
       }
 
   pub ended-listing : {x : Unfolded} {n s k : ℕ} (x′ : Unfolded) (l y z : List ℕ) → Ended x n s k → x′ ≡ x

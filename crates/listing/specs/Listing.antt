@@ -9,7 +9,7 @@ use Rattle.tables.specs.Tables.{Tables, actions}
 use Rattle.plans.specs.declared.Counts.{Counts}
 use Rattle.plans.specs.Orders.{counts-of}
 use Rattle.stations.specs.File.{file-refusal, tables-held, plan-held}
-use Rattle.rewritings.specs.Records.{Move, bytes-of, moves-of}
+use Rattle.rewritings.specs.Moves.{Move}
 use Rattle.rewritings.specs.Runs.{Run, run-of}
 use Rattle.unfolding.specs.Unfolding.{unfold-refusal}
 use Rattle.listing.specs.Text.{labelled, line-end, space, ascii}
@@ -41,9 +41,9 @@ unfoldable pub step-lines : List Move → List ℕ
 step-lines [] = []
 step-lines (m ∷ ms) = step-line (m .law) (m .place) ++ step-lines ms
 
--- under n actions, of an unfolding that ended with number e after s steps, with the plan reached and the records
-unfoldable pub ending : ℕ → ℕ → ℕ → List ℕ → List ℕ → List ℕ
-ending n e s plan records = first-line e s (length plan) (counts-of n plan) ++ (words-line plan ++ step-lines (moves-of records))
+-- under n actions, of an unfolding that ended with number e after s steps, with the plan reached and the steps made
+unfoldable pub ending : ℕ → ℕ → ℕ → List ℕ → List Move → List ℕ
+ending n e s plan moves = first-line e s (length plan) (counts-of n plan) ++ (words-line plan ++ step-lines moves)
 
 -- "or only `refused N P`, a triple printed as 1,024a + 32b + c"
 unfoldable pub refused-line : Refusal → List ℕ
@@ -56,7 +56,7 @@ unless-refused none text = text
 
 -- of a run of the unfolding
 abbrev pub run-listing : Tables → Run → List ℕ
-run-listing t r = ending (actions t) (r .number) (r .steps) (r .plan) (bytes-of (r .moves))
+run-listing t r = ending (actions t) (r .number) (r .steps) (r .plan) (r .moves)
 
 -- "allowance 5,000, … areas A and B 8,192 each, list 15,000"
 unfoldable pub plan-listing : Tables → List ℕ → List ℕ

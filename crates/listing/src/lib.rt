@@ -6,6 +6,7 @@ ghost use Prim.Native.Nat.{_*_, _≤_};
 ghost use lib.ListN.{length, take};
 ghost use Rattle.tables.specs.Tables.{actions};
 ghost use Rattle.areas.specs.Reached.{even?, reached-part};
+ghost use Rattle.rewritings.specs.Moves.{moves-of};
 ghost use Rattle.demands.specs.Claims.{own-rewriting};
 ghost use Rattle.listing.specs.Listing.{ending, plan-listing, listing};
 ghost use Rattle.listing.specs.Endings.{Endings};
@@ -48,7 +49,7 @@ fn put_ending<'a>(
         × (3 * steps ≤ length (now list)) × (length (now list) ≡ 15000) × (most ≤ length (now out)) ⌝ }
     ensures { λ r. ⌜ (take r (now (out .exit))
         ≡ ending (actions (now (tables .entry))) number steps
-        (reached-part (even? steps) size (now (a .entry)) (now (b .entry))) (own-rewriting steps (now (list .entry))))
+        (reached-part (even? steps) size (now (a .entry)) (now (b .entry))) (moves-of (own-rewriting steps (now (list .entry)))))
         × (r ≤ most) ⌝ }
 {
     let plan = aberulwy::reached(a, b, steps, size);

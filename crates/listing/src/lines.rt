@@ -2,10 +2,9 @@
 use crate::text;
 use plans::Counts;
 use refusals::Refusal;
-use rewritings::Record;
 ghost use Prim.Native.Nat.{_+_, _*_, _≤_};
 ghost use lib.ListN.{length};
-ghost use Rattle.rewritings.specs.Records.{moves-of};
+ghost use Rattle.rewritings.specs.Moves.{moves-of};
 ghost use Rattle.listing.specs.Listing.{first-line, words-line, step-line, step-lines, refused-line};
 ghost use Rattle.listing.specs.Writing.{Wrote};
 
@@ -56,7 +55,7 @@ fn put_step(law: u8, place: usize, out: &mut [u8], at: usize) -> usize
     text::put_line_end(out, next)
 }
 
-// A line for each step that is recorded.
+// A line for each step that is recorded: "in three bytes: law, then place, low byte first" (01).
 pub fn put_steps(records: &[u8], out: &mut [u8], at: usize) -> usize
     requires { ⌜ at + 4 * length (now records) ≤ length (now out) ⌝ }
     ensures { λ r. ⌜ Wrote (now (out .entry)) at (step-lines (moves-of (now (records .entry)))) (now (out .exit)) r
@@ -64,18 +63,15 @@ pub fn put_steps(records: &[u8], out: &mut [u8], at: usize) -> usize
 {
     let mut next = at;
     let mut i: usize = 0;
-    loop {
-        let record = rewritings::record_at(records, i);
-        match record {
-            Record::End => {
-                return next;
-            }
-            Record::Step(law, place, behind) => {
-                next = put_step(law, place, &mut *out, next);
-                i = behind;
-            }
-        }
+    while i + 2 < records.len() {
+        let law = records[i];
+        let low = records[i + 1] as usize;
+        let high = records[i + 2] as usize;
+        let place = low + 256 * high;
+        next = put_step(law, place, &mut *out, next);
+        i += 3;
     }
+    next
 }
 
 // The only line where something is refused: the refusal's number and its place.

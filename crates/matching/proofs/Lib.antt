@@ -8,3 +8,4 @@ pub mod Sides
 mod Rewriting
 mod LawTables
 mod Writing
+pub mod Giving

@@ -5,7 +5,9 @@ mod condition;
 mod left;
 mod right;
 
+use areas::MOST_WORDS;
 ghost use mathlib.Core.Path.{_≡_};
+ghost use mathlib.Core.Option.{none};
 ghost use Prim.Native.Nat.{_+_, _≤_, _<_};
 ghost use lib.ListN.{length};
 ghost use Rattle.areas.specs.Area.{Written};
@@ -13,7 +15,11 @@ ghost use Rattle.laws.specs.Laws.{same-bytes, highest-law};
 ghost use Rattle.matching.specs.Start.{Ready};
 ghost use Rattle.matching.specs.Right.{spelled-law, law-size, Reaches};
 ghost use Rattle.rewritings.specs.Roots.{law-term};
-ghost use Rattle.matching.specs.Tried.{Tried};
+ghost use Rattle.plans.specs.Judging.{words-refusal};
+ghost use Rattle.matching.specs.Tried.{Tried, gives};
+
+// The most words of a plan that counts as short.
+const FEW_WORDS: usize = 1024;
 
 // Whether two lists of words are equal.
 pub fn same_words(v: &[u8], w: &[u8]) -> bool
@@ -90,4 +96,47 @@ pub fn put_side(
     let low = right::RIGHT_AT[i - 1] as usize;
     let high = right::RIGHT_AT[i] as usize;
     right::put_words(&table[low..high], entry, plan, from, to, dst, at)
+}
+
+// Tries a law at the last word of an accepted plan, and compares its right side, written out into side, with the words of a subplan.
+fn gives_with(
+    law: u8,
+    tables: &[u8],
+    n: u8,
+    plan: &[u8],
+    starts: &mut [u16],
+    side: &mut [u8],
+    there: &[u8],
+) -> bool
+    requires { ⌜ (1 ≤ law) × (law ≤ highest-law) × (n ≤ 31) × (words-refusal n (now plan) ≡ none) ⌝ }
+    requires { ⌜ (length (now plan) ≤ length (now starts)) × (length (now there) ≤ length (now side)) ⌝ }
+    ensures { λ r. ⌜ r ≡ gives (law-term (now (tables .entry)) n law (now (plan .entry))) (now (there .entry)) ⌝ }
+{
+    paths::find_starts(n, plan, &mut *starts);
+    let mut from = [0u16; 7];
+    let mut to = [0u16; 7];
+    if !law_fits(law, tables, n, plan, &*starts, &mut from, &mut to) {
+        return false;
+    }
+    // compared first: a right side may be longer than side is
+    let size = right_len(law, &from, &to);
+    if size != there.len() {
+        return false;
+    }
+    put_side(law, tables, plan, &from, &to, &mut *side, 0);
+    same_words(&side[..size], there)
+}
+
+// Whether a law, applied at the last of the words of an accepted plan, gives exactly the words of a subplan. Side is scratch, as long as the subplan
+// at least. The starts of the plan's subplans are found in an array that is set to zero first: in a short one for short plans.
+pub fn law_gives(law: u8, tables: &[u8], n: u8, plan: &[u8], side: &mut [u8], there: &[u8]) -> bool
+    requires { ⌜ (1 ≤ law) × (law ≤ highest-law) × (n ≤ 31) × (words-refusal n (now plan) ≡ none) × (length (now there) ≤ length (now side)) ⌝ }
+    ensures { λ r. ⌜ r ≡ gives (law-term (now (tables .entry)) n law (now (plan .entry))) (now (there .entry)) ⌝ }
+{
+    if plan.len() <= FEW_WORDS {
+        let mut starts = [0u16; FEW_WORDS];
+        return gives_with(law, tables, n, plan, &mut starts, side, there);
+    }
+    let mut starts = [0u16; MOST_WORDS];
+    gives_with(law, tables, n, plan, &mut starts, side, there)
 }

@@ -5,6 +5,7 @@ mod OperandTable
 pub mod Reading
 pub mod Place
 pub mod Accepted
+pub mod Put
 pub mod Basic
 pub mod Stack
 mod Scanning

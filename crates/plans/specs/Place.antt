@@ -16,10 +16,14 @@ unfoldable pub subterm : ℕ → List ℕ → ℕ → Option Term
 unfolding read
 subterm n ws p = cond (ltb p (length ws)) (and-then (read n (take (suc p) ws) []) top) none
 
+-- the plan with the subplan at place p, of so many words, replaced by the words v
+abbrev pub put : List ℕ → ℕ → ℕ → List ℕ → List ℕ
+put ws p size v = take (suc p - size) ws ++ (v ++ drop (suc p) ws)
+
 -- the plan with the subplan at place p, which is t, replaced by u
 unfoldable pub replace : List ℕ → ℕ → Term → Term → List ℕ
 unfolding words
-replace ws p t u = take (suc p - length (words t)) ws ++ (words u ++ drop (suc p) ws)
+replace ws p t u = put ws p (length (words t)) (words u)
 
 -- the words from place a up to place b
 abbrev pub part : ℕ → ℕ → List ℕ → List ℕ

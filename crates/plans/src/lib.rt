@@ -226,7 +226,7 @@ pub fn count_orders(n: u8, plan: &[u8]) -> Counts
 
 // Where the subplan starts whose last word is the next one. (A byte that is no word cannot come; it would start at itself.)
 pub fn start_of_next(n: u8, word: u8, starts: &[u16], read: usize) -> u16
-    requires { ⌜ (n ≤ 31) × (read < most-words) × (length (now starts) ≡ most-words) ⌝ }
+    requires { ⌜ (n ≤ 31) × (read < most-words) × (read ≤ length (now starts)) ⌝ }
     requires { ⌜ Operands (word-of n word) (now starts) read ⌝ }
     ensures { λ r. ⌜ r ≡ start-next (word-of n word) (now (starts .entry)) read ⌝ }
 {

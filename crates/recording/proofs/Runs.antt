@@ -7,7 +7,7 @@ use mathlib.Core.Option.{none, some}
 use lib.ListN.{length}
 use borrow.Author.Tests.{lt-ltb, le-ltb}
 use Rattle.tables.specs.Tables.{Tables}
-use Rattle.rewritings.specs.Records.{Move}
+use Rattle.rewritings.specs.Moves.{Move}
 use Rattle.rewritings.specs.Choice.{Found, next-step}
 use Rattle.graphsteps.specs.Holding.{NotMade, none-allowed, list-full, too-long}
 use Rattle.rewritings.specs.Runs.{run, move}

@@ -14,9 +14,9 @@ use Rattle.areas.specs.Storing.{stepped as state-after}
 use Rattle.areas.proofs.Area.{overwrite-two}
 use Rattle.tables.specs.Tables.{Tables, actions}
 use Rattle.plans.specs.Stack.{spell}
-use Rattle.rewritings.specs.Records.{Move, record-of, bytes-of}
+use Rattle.rewritings.specs.Moves.{Move, record-of, bytes-of}
 use Rattle.rewritings.specs.Choice.{next-step}
-use Rattle.rewritings.proofs.Bytes.{bytes-last}
+use Rattle.rewritings.proofs.Moves.{bytes-last}
 use Rattle.graph.specs.Graph.{Graph, ToRead, read-none, read-more}
 use Rattle.graphsteps.specs.declared.Reading.{Reading}
 use Rattle.graphsteps.specs.declared.Cut.{Cut}

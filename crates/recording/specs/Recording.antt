@@ -7,7 +7,7 @@ use Rattle.areas.specs.declared.StepState.{StepState}
 use Rattle.areas.specs.Area.{overwrite, most-words}
 use Rattle.areas.specs.Reached.{even?}
 use Rattle.tables.specs.Tables.{Tables, actions}
-use Rattle.rewritings.specs.Records.{Move, bytes-of}
+use Rattle.rewritings.specs.Moves.{Move, bytes-of}
 use Rattle.rewritings.specs.Runs.{run}
 use Rattle.graphsteps.specs.declared.Reading.{Reading}
 use Rattle.graphsteps.specs.declared.Cut.{Cut}

@@ -10,7 +10,7 @@ ghost use lib.ListN.{length};
 ghost use Rattle.areas.specs.Area.{overwrite, most-words};
 ghost use Rattle.tables.specs.Tables.{actions};
 ghost use Rattle.tables.specs.Lawful.{Lawful};
-ghost use Rattle.rewritings.specs.Records.{record-of};
+ghost use Rattle.rewritings.specs.Moves.{record-of};
 ghost use Rattle.graphsteps.specs.Holding.{arrays, Fits, SomePlan};
 ghost use Rattle.recording.specs.Recording.{MadeOn};
 

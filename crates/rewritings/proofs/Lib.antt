@@ -1,4 +1,6 @@
+pub mod Moves
 pub mod Cutting
+pub mod Reading
 pub mod Bytes
 mod Numbers
 pub mod Finding

@@ -6,7 +6,7 @@ use mathlib.Core.Option.{Option, none, some}
 use lib.ListN.{length}
 use lib.Dec.{ltb}
 use Rattle.tables.specs.Tables.{Tables}
-use Rattle.rewritings.specs.Records.{Move}
+use Rattle.rewritings.specs.Moves.{Move}
 use Rattle.rewritings.specs.Choice.{Found, next-step}
 
 -- a run: how it ended (0 finished, or 34 to 36), how many steps were made, the plan reached, the plan before it, and the steps in their order

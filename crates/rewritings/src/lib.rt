@@ -1,16 +1,37 @@
-// A rewriting, read "three bytes to a step" (01): the covered form, `step_at` with a position that its caller holds, then the thin form, a
-// struct that holds the lent rewriting and a position, and goes on. The borrow checker covers no function over such a struct: `open`, `next`,
-// `read_of` and `record_at` are proved by hand, and `record_at`, which the checker calls in its loops, has plain parameters.
+// A rewriting with steps of both directions, read record by record.
 ghost use mathlib.Core.Path.{_≡_};
-ghost use Rattle.rewritings.specs.Reading.{record-at, after-record, gone-on};
+ghost use Prim.Native.Nat.{_+_, _≤_};
+ghost use lib.ListN.{length, drop};
+ghost use Rattle.rewritings.specs.Records.{first-backward};
+ghost use Rattle.rewritings.specs.Reading.{read-first, record-at, after-record, gone-on};
 
-// What stands at a position: a step, by law and place, and the position after it; or the end.
+// What stands at a position: a step, by law, place and the position after it; a step backwards, by law, place, the position of its left side
+// and the position after that; or the end.
 pub enum Record {
     Step(u8, usize, usize),
+    Back(u8, usize, usize, usize),
     End,
 }
 
-// What stands at a position of a rewriting. "A step is recorded in three bytes: law, then place, low byte first."
+// What stands behind the place of a step backwards: "a two-byte length, low first, and the words of the left side".
+pub fn back_at(rewriting: &[u8], at: usize, law: u8, place: usize) -> Record
+    requires { ⌜ at + 3 ≤ length (now rewriting) ⌝ }
+    ensures { λ r. ⌜ r ≡ read-first at (first-backward (record { law = law; place = place }) (drop (at + 3) (now (rewriting .entry)))) ⌝ }
+{
+    if rewriting.len() - at < 5 {
+        return Record::End;
+    }
+    let low = rewriting[at + 3] as usize;
+    let high = rewriting[at + 4] as usize;
+    let size = low + 256 * high;
+    let from = at + 5;
+    if rewriting.len() - from < size {
+        return Record::End;
+    }
+    Record::Back(law, place, from, from + size)
+}
+
+// What stands at a position of a rewriting. "A step whose first byte is 128 more than a law's number goes backwards."
 pub fn step_at(rewriting: &[u8], at: usize) -> Record
     ensures { λ r. ⌜ r ≡ record-at (now (rewriting .entry)) at ⌝ }
 {
@@ -20,10 +41,17 @@ pub fn step_at(rewriting: &[u8], at: usize) -> Record
     if rewriting.len() - 3 < at {
         return Record::End;
     }
-    let law = rewriting[at];
+    let first = rewriting[at];
     let low = rewriting[at + 1] as usize;
     let high = rewriting[at + 2] as usize;
-    Record::Step(law, low + 256 * high, at + 3)
+    let place = low + 256 * high;
+    if first < 129 {
+        return Record::Step(first, place, at + 3);
+    }
+    if 128 + laws::HIGHEST_LAW < first {
+        return Record::Step(first, place, at + 3);
+    }
+    back_at(rewriting, at, first - 128, place)
 }
 
 // "A reader goes through a rewriting": the lent rewriting, and a position in it.
@@ -45,6 +73,7 @@ fn position_after(read: Record, at: usize) -> usize
 {
     match read {
         Record::Step(_, _, next) => next,
+        Record::Back(_, _, _, next) => next,
         Record::End => at,
     }
 }

@@ -15,7 +15,7 @@ use Rattle.tables.specs.Lawful.{Lawful}
 use Rattle.tables.specs.Search.{first-from}
 use Rattle.plans.specs.Term.{Term, words}
 use Rattle.plans.specs.Stack.{spell, stacked}
-use Rattle.rewritings.specs.Records.{Move, bytes-of}
+use Rattle.rewritings.specs.Moves.{Move, bytes-of}
 use Rattle.rewritings.specs.Choice.{next-step}
 use Rattle.graph.specs.Graph.{Graph, Holds, held-none, ToRead, Nodes, most-nodes}
 use Rattle.graph.proofs.Reading.{holds-inside}

@@ -11,7 +11,7 @@ use Rattle.tables.specs.Tables.{Tables, actions}
 use Rattle.plans.specs.Term.{Term, words}
 use Rattle.plans.specs.Stack.{spell, stacked}
 use Rattle.plans.specs.Judging.{words-refusal}
-use Rattle.rewritings.specs.Records.{Move, bytes-of}
+use Rattle.rewritings.specs.Moves.{Move, bytes-of}
 use Rattle.rewritings.specs.Runs.{run}
 use Rattle.graph.specs.Graph.{Graph, Root, Held, ToRead}
 use Rattle.graphsteps.specs.declared.Cut.{Cut}

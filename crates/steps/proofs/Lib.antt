@@ -1,5 +1,7 @@
 pub mod Making
-pub mod Loading
-pub mod Seeking
 mod Putting
+pub mod Seeking
+mod Answering
 mod Trying
+mod Backing
+pub mod Loading

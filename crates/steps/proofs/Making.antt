@@ -1,24 +1,21 @@
 -- A step made at the last word read: the plan under work is then the next plan, and the plan before it can be put together again.
 use Prim.Native.Nat.{ℕ, _+_, _-_, _≤_, _<_}
 use native.Mathlib.Omega.{arith}
-use mathlib.Core.Path.{_≡_, refl, _∙_}
+use mathlib.Core.Path.{_≡_, refl}
 use mathlib.Core.List.{List, _++_}
-use mathlib.Core.Option.{none, some}
+use mathlib.Core.Option.{none}
 use lib.ListN.{length, take, drop, length-append, length-drop}
 use lib.Seq.{length-take-le, take-take}
 use Rattle.tables.specs.Tables.{Tables, actions}
-use Rattle.tables.specs.Lawful.{Lawful}
 use Rattle.plans.specs.Judging.{words-refusal}
 use Rattle.plans.specs.Start.{start-of}
-use Rattle.laws.specs.Step.{step}
-use Rattle.laws.proofs.Stepping.{step-alike}
 use Rattle.plans.proofs.Start.{start-below}
 use Rattle.areas.specs.Reached.{even?}
 use Rattle.buffer.specs.declared.State.{State}
 use Rattle.buffer.specs.Buffer.{whole}
 use Rattle.buffer.specs.Moves.{Gap}
 use Rattle.buffer.proofs.Whole.{held-gap, whole-length, step-whole, held-step, before-step, kept-step}
-use Rattle.steps.specs.Working.{plan-in, Working, Next, start-here, side-here, next-here, PutIn, put-in}
+use Rattle.steps.specs.Working.{plan-in, Working, Next, start-here, next-with, Put, put-in}
 use Rattle.steps.specs.declared.Replaced.the-variants.{Step}
 use Rattle.rewritings.proofs.Prefixes.{put-last}
 use Rattle.areas.specs.Area.{most-words}
@@ -65,30 +62,27 @@ module _ (t : Tables) (left starts right : List ℕ) (s : State) (work : Working
         gap .right-long,
       )
 
--- the step made
-module _ (t : Tables) (ok : Lawful t) (law c : ℕ) (left starts right old f g right′ old′ : List ℕ) (s : State) (most : c ≤ most-words) (work : Working t left starts right s)
-    (fits-c : length (plan-in left right s) ≤ c) (parity : s .made .even ≡ even? (s .made .steps)) (read-some : 1 ≤ s .read) (w : List ℕ)
-    (is-next : next-here t law left starts right f g s ≡ w) (k p : ℕ) (stepping : step t k p (plan-in left right s) ≡ some w) where
-  accepted-next : length w ≤ most-words → words-refusal (actions t) w ≡ none
-  accepted-next l = step-alike t ok k p (plan-in left right s) w (work .accepted) stepping .1 l
-
-  pub made-next : (s′ : State) → PutIn t law c left starts right old f g right′ old′ s (Step s′) → Next t c left right left starts right′ old′ s s′ w
+-- words put in: the plan under work is then the next plan, and the plan before it can be put together again
+module _ (t : Tables) (c : ℕ) (side left starts right old right′ old′ : List ℕ) (s : State) (most : c ≤ most-words) (work : Working t left starts right s)
+    (fits-c : length (plan-in left right s) ≤ c) (parity : s .made .even ≡ even? (s .made .steps)) (read-some : 1 ≤ s .read)
+    (accepted-next : length (next-with side left starts right s) ≤ most-words → words-refusal (actions t) (next-with side left starts right s) ≡ none) where
+  pub made-next : (s′ : State) → Put c side left starts right old right′ old′ s (Step s′)
+      → Next t c left right left starts right′ old′ s s′ (next-with side left starts right s)
   made-next s′ (put-in short-next written kept-words) =
       let st = start-here starts s in
-      let sd = side-here t law left f g s in
+      let w = next-with side left starts right s in
       let h = gap t left starts right s work in
       let le : st ≤ s .read = omega (arith, start-before t left starts right s work read-some) in
-      let room : st + length sd ≤ s .rest = omega (arith, next-long t left starts right s work sd read-some, h .rest-in, most) in
-      let e : plan-in left right′ s′ ≡ w = rw written (step-whole left right sd (s .read) (s .rest) st h le room ∙ is-next) in
-      let lw : length w ≤ c = rw is-next at short-next in
+      let room : st + length side ≤ s .rest = omega (arith, next-long t left starts right s work side read-some, h .rest-in, most) in
+      let e : plan-in left right′ s′ ≡ w = rw written (step-whole left right side (s .read) (s .rest) st h le room) in
       record {
         working =
             record {
-              held = rw written (held-step left right sd (s .read) (s .rest) st h le room (actions t) starts (work .held));
+              held = rw written (held-step left right side (s .read) (s .rest) st h le room (actions t) starts (work .held));
               accepted = rw e (accepted-next (omega arith));
             };
-        kept = rw (← is-next) (kept-step left right sd (s .read) (s .rest) st h le room (s .made) old′ kept-words c fits-c short-next parity);
+        kept = kept-step left right side (s .read) (s .rest) st h le room (s .made) old′ kept-words c fits-c short-next parity;
         next-plan = e;
-        next-before = rw (← is-next) (before-step left right sd (s .read) (s .rest) st h le room (s .made) old′ kept-words);
+        next-before = before-step left right side (s .read) (s .rest) st h le room (s .made) old′ kept-words;
         next-steps = refl;
       }

@@ -1,4 +1,5 @@
 mod Ground
 mod Meaning
 mod Unfolding
+mod Backwards
 mod Printed

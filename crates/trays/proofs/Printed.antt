@@ -20,7 +20,6 @@ use Rattle.writing.specs.Writing.{station-file}
 use Rattle.writing.proofs.File.{file-tables, file-plan, form-due}
 use Rattle.laws.specs.Laws.{laws, law-at, rewrite, fit, bind, holds, build, same-bytes}
 use Rattle.laws.specs.Step.{step}
-use Rattle.rewritings.specs.Records.{record-of, bytes-of, first-record, cut-from, moves-of}
 use Rattle.rewritings.specs.Choice.{next-step, lowest-law}
 use Rattle.rewritings.specs.Runs.{run, run-of}
 use Rattle.unfolding.specs.Unfolding.{unfold-refusal}
@@ -58,7 +57,7 @@ holds-plan = file-plan trial plan
 
 -- the lines of the run
 printed : run-listing trial (run-of trial plan 5000 15000 8192) ≡ ascii "end 0 steps 4 size 9 orders 3 stuck 0\n1 2 65 2 1 65 64 3 64\n11 2\n12 2\n12 5\n10 9\n"
-unfolding trial communicate put-below block plan actions communication below blocked word-of sign-of operands-of binary-word unary-word run-of run next-step lowest-law step law-at laws rewrite fit bind holds build same-bytes subterm replace term-of read push words record-of bytes-of first-record cut-from moves-of ending first-line words-line further-words step-line step-lines counts-of counts basic? sum-plan? labelled decimal digits-within
+unfolding trial communicate put-below block plan actions communication below blocked word-of sign-of operands-of binary-word unary-word run-of run next-step lowest-law step law-at laws rewrite fit bind holds build same-bytes subterm replace term-of read push words ending first-line words-line further-words step-line step-lines counts-of counts basic? sum-plan? labelled decimal digits-within
 printed = refl
 
 -- what is printed for a file, from what it holds

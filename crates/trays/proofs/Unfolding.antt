@@ -25,7 +25,8 @@ use Rattle.trees.specs.Meaning.{plan-tree}
 use Rattle.trees.proofs.Decision.{alike?}
 use Rattle.laws.specs.Laws.{laws, law-at, rewrite, fit, bind, holds, build, same-bytes}
 use Rattle.laws.specs.Step.{step}
-use Rattle.rewritings.specs.Records.{record-of, bytes-of, first-record, cut-from, moves-of, whole?}
+use Rattle.rewritings.specs.Moves.{record-of, bytes-of}
+use Rattle.rewritings.specs.Records.{backward?, first-carried, first-backward, first-with, first-record, cut-from, records-of, whole?}
 use Rattle.rewritings.specs.Choice.{next-step, lowest-law}
 use Rattle.unfolding.specs.declared.Unfolded.{Unfolded}
 use Rattle.unfolding.specs.declared.Unfolded.the-variants.{Finished, Stopped}
@@ -33,7 +34,7 @@ use Rattle.rewritings.specs.Runs.{run, run-of}
 use Rattle.unfolding.specs.Unfolding.{unfold-refusal, unfold-outcome, UnfoldOutcome}
 use Rattle.unfolding.specs.Unfolding as unfolding-of
 use Rattle.checking.specs.declared.Checked.the-variants.{Accepted}
-use Rattle.checking.specs.Checking.{replay, replay-of, unknown-law, rewriting-refusal, check-refusal, check-outcome, CheckOutcome}
+use Rattle.checking.specs.Checking.{step-of, replay, replay-of, unknown-law, left-refusal, records-refusal, rewriting-refusal, check-refusal, check-outcome, CheckOutcome}
 use Rattle.checking.specs.Checking as checking-of
 use Rattle.trays.specs.Trays.{trial, communicate, put-below, block}
 use Rattle.trays.proofs.Ground.{trial-accepted}
@@ -191,7 +192,7 @@ all-judged [] = refl
 all-judged (r ∷ rs) = rw (told-judged r, all-judged rs)
 
 computed : map (judged-so none) trays ≡ map expected trays
-unfolding trays judged-so expected trial communicate put-below block run-of run next-step lowest-law first-from step record-of bytes-of first-record cut-from moves-of whole? replay replay-of unknown-law rewriting-refusal laws law-at rewrite fit bind holds build same-bytes words push read term-of subterm replace binary-word unary-word word-of sign-of operands-of words-refusal refusal-from turn-of basic-words? basic? sum-plan? actions communication below blocked capacity even? area-a area-b reached-part padded plan-tree alike? merge-trees left-trees communication-trees encapsulation-tree unless-tree priority-tree _⊕_ _⊙_
+unfolding trays judged-so expected trial communicate put-below block run-of run next-step lowest-law first-from step record-of bytes-of backward? first-carried first-backward first-with first-record cut-from records-of whole? step-of replay replay-of unknown-law left-refusal records-refusal rewriting-refusal laws law-at rewrite fit bind holds build same-bytes words push read term-of subterm replace binary-word unary-word word-of sign-of operands-of words-refusal refusal-from turn-of basic-words? basic? sum-plan? actions communication below blocked capacity even? area-a area-b reached-part padded plan-tree alike? merge-trees left-trees communication-trees encapsulation-tree unless-tree priority-tree _⊕_ _⊙_
 computed = refl
 
 -- the twelve trays

@@ -9,8 +9,8 @@ use Rattle.areas.specs.declared.StepState.{StepState}
 use Rattle.areas.specs.Area.{overwrite, padded}
 use Rattle.areas.specs.Storing.{no-step, before}
 use Rattle.tables.specs.Tables.{Tables}
-use Rattle.rewritings.specs.Records.{Move, bytes-of}
-use Rattle.rewritings.proofs.Bytes.{bytes-append}
+use Rattle.rewritings.specs.Moves.{Move, bytes-of}
+use Rattle.rewritings.proofs.Moves.{bytes-append}
 use Rattle.rewritings.specs.Runs.{run, run-of}
 use Rattle.rounds.specs.Rounds.{Given, RoundEnd, run-over, another, RoundOf}
 use Rattle.recording.specs.Recording.{Ends}

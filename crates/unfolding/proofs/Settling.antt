@@ -19,7 +19,7 @@ use Rattle.tables.specs.Lawful.{Lawful}
 use Rattle.tables.proofs.Lawful.{accepted-iff-lawful}
 use Rattle.plans.specs.Judging.{plan-refusal}
 use Rattle.plans.proofs.Accepted.{plan-accepted-iff}
-use Rattle.rewritings.specs.Records.{bytes-of}
+use Rattle.rewritings.specs.Moves.{bytes-of}
 use Rattle.unfolding.specs.declared.Unfolded.{Unfolded}
 use Rattle.unfolding.specs.declared.Unfolded.the-variants.{Finished, Stopped, Refused}
 use Rattle.unfolding.specs.declared.Last.{Last}

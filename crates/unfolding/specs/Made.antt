@@ -6,7 +6,7 @@ use lib.ListN.{length, drop}
 use Rattle.areas.specs.Area.{padded}
 use Rattle.areas.specs.Storing.{before}
 use Rattle.tables.specs.Tables.{Tables}
-use Rattle.rewritings.specs.Records.{bytes-of}
+use Rattle.rewritings.specs.Moves.{bytes-of}
 use Rattle.rewritings.specs.Runs.{Run}
 use Rattle.rounds.specs.Rounds.{Given}
 use Rattle.unfolding.specs.declared.Last.{Last}

@@ -14,7 +14,7 @@ use Rattle.plans.specs.Judging.{plan-refusal}
 use Rattle.unfolding.specs.declared.Unfolded.{Unfolded}
 use Rattle.unfolding.specs.declared.Unfolded.the-variants.{Finished, Stopped, Refused}
 use Rattle.areas.specs.Reached.{capacity, even?, area-a, area-b}
-use Rattle.rewritings.specs.Records.{bytes-of}
+use Rattle.rewritings.specs.Moves.{bytes-of}
 use Rattle.rewritings.specs.Runs.{Run, run-of}
 
 -- everything that an unfolding answers and leaves

@@ -2,7 +2,7 @@
 //! of it.
 
 use super::plans::{any_plan, damaged_plan, plan, small_plan};
-use super::rewritings::{damage_rewriting, derivation, Derivation};
+use super::rewritings::{damage_rewriting, derivation, derivation_both_ways, Derivation};
 use super::tables::{damaged_tables, lawful_tables};
 use super::Random;
 use crate::checking::{self, check_rewriting};
@@ -10,6 +10,7 @@ use crate::laws::{apply, next_step};
 use crate::plans::{judge, LONGEST_PLAN};
 use crate::runs::reached;
 use crate::tables::trial_tables;
+use crate::turning::turned_round;
 use crate::unfolding::{self, unfold, RECORD};
 
 /// Lengths of areas worth trying whatever the plan.
@@ -207,28 +208,46 @@ fn areas(random: &mut Random, words: usize, longest: usize) -> (Vec<u8>, Vec<u8>
 
 /// A case for the checker: a derivation, whole or damaged, with a right or wrong claim.
 pub fn check_case(random: &mut Random) -> CheckCase {
-    let (tables, start) = tables_and_plan(random);
-    if judge(&tables, &start).is_err() {
-        return check_case_refused(random, tables, start);
+    let (tables, plan) = tables_and_plan(random);
+    if judge(&tables, &plan).is_err() {
+        return check_case_refused(random, tables, plan);
     }
     let most_steps = random.pick(&[0, 1, 2, 3, 5, 10, 30]);
-    let made = derivation(random, &tables, &start, most_steps, LONGEST_PLAN);
-    let (a, b) = areas(random, start.len(), made.longest);
-    let claimed = claim(random, tables[0], &start, &made);
+    let made = any_derivation(random, &tables, &plan, most_steps);
+    let (a, b) = areas(random, made.start.len(), made.longest);
+    let claimed = claim(random, tables[0], &made);
     let mut rewriting = made.rewriting;
-    if random.once_in(3) {
-        damage_rewriting(random, &mut rewriting, made.end.len());
+    if random.once_in(2) {
+        damage_rewriting(random, &tables, &mut rewriting, &made.end);
     }
     while random.once_in(12) {
-        damage_rewriting(random, &mut rewriting, made.end.len());
+        damage_rewriting(random, &tables, &mut rewriting, &made.end);
     }
     CheckCase {
         tables,
-        start,
+        start: made.start,
         claimed,
         rewriting,
         a,
         b,
+    }
+}
+
+/// A derivation with this plan at one of its ends: all its steps go forwards, or all backwards, or
+/// they go both ways.
+pub fn any_derivation(
+    random: &mut Random,
+    tables: &[u8],
+    plan: &[u8],
+    most_steps: usize,
+) -> Derivation {
+    let made = match random.once_in(2) {
+        true => derivation(random, tables, plan, most_steps, LONGEST_PLAN),
+        false => derivation_both_ways(random, tables, plan, most_steps, LONGEST_PLAN),
+    };
+    match random.once_in(3) {
+        true => made.turned_round(tables),
+        false => made,
     }
 }
 
@@ -238,7 +257,14 @@ fn check_case_refused(random: &mut Random, tables: Vec<u8>, start: Vec<u8>) -> C
     let (a, b) = areas(random, start.len(), start.len());
     CheckCase {
         claimed: random.pick(&[start.clone(), vec![0], vec![], vec![255]]),
-        rewriting: random.pick(&[vec![], vec![1], vec![0, 0, 0], vec![1, n, 0]]),
+        rewriting: random.pick(&[
+            vec![],
+            vec![1],
+            vec![0, 0, 0],
+            vec![1, n, 0],
+            vec![129, 0, 0],
+            vec![129, 0, 0, 0, 0],
+        ]),
         tables,
         start,
         a,
@@ -247,9 +273,9 @@ fn check_case_refused(random: &mut Random, tables: Vec<u8>, start: Vec<u8>) -> C
 }
 
 /// The plan claimed: mostly the end of the derivation.
-fn claim(random: &mut Random, n: u8, start: &[u8], made: &Derivation) -> Vec<u8> {
+fn claim(random: &mut Random, n: u8, made: &Derivation) -> Vec<u8> {
     match random.below(24) {
-        0 => start.to_vec(),
+        0 => made.start.clone(),
         1 => any_plan(random, n),
         2 | 3 => damaged_plan(random, n),
         4 => {
@@ -276,6 +302,22 @@ pub fn own_rewriting_case(case: &UnfoldCase) -> Option<CheckCase> {
         start: case.plan.clone(),
         claimed,
         rewriting: unfolded.list[..RECORD * steps].to_vec(),
+        a: case.a.clone(),
+        b: case.b.clone(),
+    })
+}
+
+/// An accepted rewriting turned round: from the claimed plan to the start plan, with the same areas.
+/// None where the case is not accepted.
+pub fn turned_case(case: &CheckCase) -> Option<CheckCase> {
+    if case.run().answer.number() != 0 {
+        return None;
+    }
+    Some(CheckCase {
+        tables: case.tables.clone(),
+        start: case.claimed.clone(),
+        claimed: case.start.clone(),
+        rewriting: turned_round(&case.tables, &case.start, &case.rewriting)?,
         a: case.a.clone(),
         b: case.b.clone(),
     })

@@ -1,6 +1,7 @@
 //! Seeded random tables, plans, rewritings, files, texts, walks, pairs of actions and whole cases,
 //! for comparing implementations. They stay close to the edges of what is accepted.
 
+pub mod backwards;
 pub mod cases;
 pub mod forms;
 pub mod plans;

@@ -248,18 +248,26 @@ fn left_side(random: &mut Random, n: u8, law: usize) -> Vec<u8> {
             'y' => plan.extend(&letters[1]),
             'z' => plan.extend(&letters[2]),
             'a' | 'b' => plan.push(action(random, n)),
-            'δ' => plan.push(0),
-            '+' => plan.push(CHOICE),
-            '·' => plan.push(PRODUCT),
-            '‖' => plan.push(MERGE),
-            '⌊' => plan.push(LEFT_MERGE),
-            '|' => plan.push(COMMUNICATION_MERGE),
-            '◁' => plan.push(UNLESS),
-            'θ' => plan.push(THETA),
-            _ => plan.push(encapsulation),
+            _ => plan.push(fixed_word(letter).unwrap_or(encapsulation)),
         }
     }
     plan
+}
+
+/// The word of δ, or of a sign other than ∂, in a law's sides; none for a letter and for ∂, which
+/// stand for more than one.
+pub(super) fn fixed_word(letter: char) -> Option<u8> {
+    match letter {
+        'δ' => Some(DEAD_STOP),
+        '+' => Some(CHOICE),
+        '·' => Some(PRODUCT),
+        '‖' => Some(MERGE),
+        '⌊' => Some(LEFT_MERGE),
+        '|' => Some(COMMUNICATION_MERGE),
+        '◁' => Some(UNLESS),
+        'θ' => Some(THETA),
+        _ => None,
+    }
 }
 
 /// A plan in which the given one stands as an operand.

@@ -2,11 +2,12 @@
 //!
 //! The library judges *tables* (2,305 bytes: communication, priority, blocked sets) and
 //! *plans* (postfix words, one byte each), unfolds a plan to a basic one by laws 5 to 32,
-//! records the steps, checks anybody's rewriting by all thirty-two laws, reads, writes and lists
-//! station files, reads plans typed in signs, walks through a basic plan message by message, says
-//! whether one action comes before another on all its paths, and brings a basic plan to a form that
-//! all basic plans of its tree share. Every call takes slices of any length; what is malformed is refused
-//! with a number and a place, and then nothing lent is changed. Nothing is allocated.
+//! records the steps, checks anybody's rewriting by all thirty-two laws, in both directions, reads,
+//! writes and lists station files, reads plans typed in signs, walks through a basic plan message by
+//! message, says whether one action comes before another on all its paths, and brings a basic plan to
+//! a form that all basic plans of its tree share. Every call takes slices of any length; what is
+//! malformed is refused with a number and a place, and then nothing lent is changed. The library
+//! allocates nothing; [`reversed`], which is this crate's own and turns a rewriting round, does.
 //!
 //! ```
 //! use aberulwy::{unfold, Ending};
@@ -46,6 +47,11 @@
 //! The choices of a plan can be drawn in many orders. [`fix_form`] brings basic plans that do the
 //! same to the same words, so that comparing their bytes tells whether two of them do.
 //!
+//! A rewriting is a list of steps, each naming a law and a place. [`check_rewriting`] accepts one only
+//! if both its plans have the same tree; a step may also go from right to left, and then carries the
+//! left side. So the list of an unfolding, turned round by [`reversed`], leads from the basic plan
+//! back to the plan of the parts.
+//!
 //! A station file holds tables and a plan: [`write_station`] writes it, and [`read_station`] takes
 //! both from it again.
 //!
@@ -55,9 +61,9 @@
 //! # Stack
 //!
 //! Allow 640 KiB for [`list_station`], 512 KiB for [`unfold`] and [`unfold_checked`], 256 KiB
-//! for [`fix_form`], 192 KiB for [`read_text`], 128 KiB for [`check_rewriting`] and [`walk`],
-//! 96 KiB for [`precedes`], and 64 KiB for each other call; `include/aberulwy.h` has what was
-//! measured. The default of a Rust thread (2 MiB) is enough for all of them.
+//! for [`fix_form`], 192 KiB for [`read_text`], [`check_rewriting`] and [`reversed`], 128 KiB for
+//! [`walk`], 96 KiB for [`precedes`], and 64 KiB for each other call; `include/aberulwy.h` has what
+//! was measured. The default of a Rust thread (2 MiB) is enough for all of them.
 //!
 //! # Linking
 //!
@@ -76,16 +82,19 @@ mod judging;
 mod precedence;
 pub mod raw;
 mod refusals;
+mod reversing;
 mod stations;
 mod texts;
 mod unfolding;
 mod walks;
+mod words;
 
 pub use checking::{check_rewriting, Checked, Verdict};
 pub use forms::fix_form;
 pub use judging::{count_orders, is_basic, judge_plan, judge_tables, Counts};
 pub use precedence::{precedes, Precedence};
 pub use refusals::{Place, Refusal};
+pub use reversing::{reversed, Reversed};
 pub use stations::{list_station, read_station, write_station};
 pub use texts::read_text;
 pub use unfolding::{copy_reached, unfold, unfold_checked, Ending, Unfolded, UnfoldedChecked};
@@ -99,7 +108,8 @@ pub const LONGEST_PLAN: usize = 16_384;
 pub const LONGEST_STATION: usize = 19_456;
 /// The bytes of the longest listing; none is longer.
 pub const LONGEST_LISTING: usize = 93_000;
-/// The bytes of one record: law, then place, low byte first.
+/// The bytes of the record of a step from left to right, as the unfolding writes it: law, then
+/// place, low byte first.
 pub const RECORD: usize = 3;
 
 /// The plan reached: a part of area A after an even number of steps, of area B after an odd

@@ -557,7 +557,8 @@ pub fn reached(a: &[u8], b: &[u8], steps: usize, size: usize, plan_area: &mut [u
     }
 }
 
-/// Checks a rewriting: 0, or 31 to 33; or 1 to 8, 11 to 18 with every lent byte kept.
+/// Checks a rewriting, with steps in both directions: 0, or 31 to 33; or 1 to 8, 11 to 18, 75 with
+/// every lent byte kept.
 ///
 /// ```
 /// use aberulwy::raw::{check_rewriting, Ended};
@@ -568,7 +569,13 @@ pub fn reached(a: &[u8], b: &[u8], steps: usize, size: usize, plan_area: &mut [u
 ///     |rewriting| check_rewriting(&tables, &start, &[2, 1, 64], rewriting, &mut a, &mut b);
 /// assert_eq!(check(&[1, 2, 0]), Ended { number: 0, steps: 1, size: 3, place: 0 });
 /// assert_eq!(check(&[]), Ended { number: 33, steps: 0, size: 3, place: 0 });
-/// assert_eq!(check(&[1, 2, 0, 33, 0, 0]), Ended { number: 17, steps: 0, size: 0, place: 1 });
+/// let refused = |number, place| Ended { number, steps: 0, size: 0, place };
+/// assert_eq!(check(&[1, 2, 0, 33, 0, 0]), refused(17, 1));
+/// // Law 1 from right to left: the left side 2 + 1, which law 1 makes into 1 + 2.
+/// let back = [129, 2, 0, 3, 0, 2, 1, 64];
+/// assert_eq!(check(&back), Ended { number: 0, steps: 1, size: 3, place: 0 });
+/// assert_eq!(check(&back[..7]), refused(16, 0));
+/// assert_eq!(check(&[129, 2, 0, 1, 0, 64]), refused(75, 0));
 /// ```
 pub fn check_rewriting(
     tables: &[u8],

@@ -77,11 +77,14 @@ impl Refusal {
     /// // Two plans are left over.
     /// assert_eq!(place(&[1, 2]), Place::Nowhere);
     ///
-    /// // The second record names law 33.
-    /// let rewriting = [1, 2, 0, 33, 2, 0];
+    /// // The second record names law 33; then the third step is law 4 from right to left, with a
+    /// // left side of two actions side by side, which is no plan.
     /// let (start, mut a, mut b) = ([1, 2, 64], [0; 8], [0; 8]);
-    /// let checked = check_rewriting(&tables, &start, &start, &rewriting, &mut a, &mut b);
-    /// assert_eq!(checked.unwrap_err().place(), Place::Step(1));
+    /// let mut refusal = |rewriting: &[u8]| {
+    ///     check_rewriting(&tables, &start, &start, rewriting, &mut a, &mut b).unwrap_err()
+    /// };
+    /// assert_eq!(refusal(&[1, 2, 0, 33, 2, 0]).place(), Place::Step(1));
+    /// assert_eq!(refusal(&[1, 2, 0, 1, 2, 0, 132, 0, 0, 2, 0, 1, 1]).place(), Place::Step(2));
     ///
     /// // 4 is below 1, and 1 below 4.
     /// tables[1025 + 32 * 4 + 1] = 1;
@@ -95,7 +98,7 @@ impl Refusal {
                 (self.printed / 32 % 32) as u8,
                 (self.printed % 32) as u8,
             ),
-            17 => Place::Step(self.printed),
+            17 | 75 => Place::Step(self.printed),
             _ => Place::Nowhere,
         }
     }
@@ -123,7 +126,7 @@ impl Refusal {
             13 => "a word of the plan has too few operands",
             14 => "more than one plan is left over",
             15 => "the plan is longer than the areas can hold",
-            16 => "the rewriting is not made of three-byte records",
+            16 => "the last record of the rewriting is cut short",
             17 => "a record of the rewriting names no law",
             18 => "the claimed plan is no plan",
             51 => "the file is not 6 to 38 blocks long",
@@ -139,6 +142,7 @@ impl Refusal {
             72 => "no path goes on with the message",
             73 => "the two actions are equal, or one of them is outside 1 to n",
             74 => "the area is shorter than what is to be written into it",
+            75 => "a left side that a record of the rewriting carries is no plan",
             _ => "an unlisted reason",
         }
     }
@@ -170,6 +174,7 @@ mod tests {
         );
         assert_eq!(Refusal::new(12, 7).place(), Place::Byte(7));
         assert_eq!(Refusal::new(17, 7).place(), Place::Step(7));
+        assert_eq!(Refusal::new(75, 7).place(), Place::Step(7));
         assert_eq!(Refusal::new(55, 0).place(), Place::Nowhere);
         assert_eq!(Refusal::new(61, 7).place(), Place::Byte(7));
         assert_eq!(Refusal::new(62, 201).place(), Place::Byte(201));

@@ -9,9 +9,9 @@ use benchmarks::contenders::{PLAIN, PROVED, REFERENCE};
 use benchmarks::maude;
 use benchmarks::measuring::{cell, least_times, mean};
 use benchmarks::workloads::{
-    counts, forms, growing_sums, judgements, merges_in_growing_areas, merges_of_longer_chains,
-    precedences, single_action, sizes, station_files, sum_tables, texts, walks, Places, Reading,
-    Replay, Unfolding, Workload, REPLAYED,
+    counts, exchanges, exchanges_back, forms, growing_sums, judgements, lists,
+    merges_in_growing_areas, merges_of_longer_chains, precedences, single_action, station_files,
+    sum_tables, texts, walks, Reading, Unfolding, Workload,
 };
 use reference::plans::LONGEST_PLAN;
 use reference::tables::{actions, trial_tables};
@@ -51,6 +51,8 @@ fn main() {
     longer_chains(with_maude);
     plan_length(with_maude);
     replays();
+    replays_back();
+    replayed_lists();
     short_texts();
     long_texts();
     messages();
@@ -240,19 +242,60 @@ fn replays() {
     println!("| places | words | steps | proved | plain | proved/plain |");
     println!("|---|--:|--:|--:|--:|--:|");
     let mut ratios = Vec::new();
-    for (name, places, most) in [
-        ("near", Places::Near, REPLAYED.0),
-        ("far", Places::Far, REPLAYED.1),
-    ] {
-        for words in sizes() {
-            let mut replay = Replay::new(words, places, most);
-            let (_, steps, size) = replay.run(PLAIN);
-            let times = Times::measure(name, &mut replay).each(steps);
-            println!("| {name} | {size} | {steps} | {} |", times.cells());
+    for (name, mut replay) in exchanges() {
+        let (_, steps, size) = replay.run(PLAIN);
+        let times = Times::measure(&name, &mut replay).each(steps);
+        println!("| {name} | {size} | {steps} | {} |", times.cells());
+        ratios.extend(times.ratio());
+    }
+    println!("| geometric mean | | | | | {} |", cell(mean(&ratios)));
+}
+
+fn replays_back() {
+    println!("\n### Checking: exchanges in a long sum, from right to left\n");
+    println!(
+        "Each step carries its left side, of three words or of about a quarter of the plan; the"
+    );
+    println!(
+        "exchanges are made on as many words at the front and at the end. Near and far as above.\n"
+    );
+    println!("| left side | places | words | steps | proved | plain | proved/plain |");
+    println!("|--:|---|--:|--:|--:|--:|--:|");
+    let mut ratios = Vec::new();
+    for (names, mut replay) in exchanges_back() {
+        let (_, steps, size) = replay.run(PLAIN);
+        let times = Times::measure(&names, &mut replay).each(steps);
+        println!("| {names} | {size} | {steps} | {} |", times.cells());
+        ratios.extend(times.ratio());
+    }
+    println!("| geometric mean | | | | | | {} |", cell(mean(&ratios)));
+}
+
+fn replayed_lists() {
+    println!("\n### Checking: lists of unfoldings, and turned round\n");
+    println!("Of the merges of two chains in areas of that many words (above), the unfolding's own list,");
+    println!("all steps from left to right, and the list turned round, all steps from right to left. Left");
+    println!("side: the words that a step of the second list carries, in the arithmetic mean.\n");
+    println!("| plan | areas | steps | left side | own: proved | plain | proved/plain | turned round: proved | plain | proved/plain |");
+    println!("|---|--:|--:|--:|--:|--:|--:|--:|--:|--:|");
+    let mut ratios: [Vec<f64>; 2] = Default::default();
+    for (names, [mut own, mut turned]) in lists() {
+        let (_, steps, _) = own.run(PLAIN);
+        let carried = turned.carried(steps) as f64 / steps as f64;
+        let own = Times::measure(&names, &mut own).each(steps);
+        let turned = Times::measure(&names, &mut turned).each(steps);
+        println!(
+            "| {names} | {steps} | {} | {} | {} |",
+            cell(Some(carried)),
+            own.cells(),
+            turned.cells()
+        );
+        for (ratios, times) in ratios.iter_mut().zip([own, turned]) {
             ratios.extend(times.ratio());
         }
     }
-    println!("| geometric mean | | | | | {} |", cell(mean(&ratios)));
+    let [own, turned] = ratios.map(|ratios| cell(mean(&ratios)));
+    println!("| geometric mean | | | | | | {own} | | | {turned} |");
 }
 
 fn short_texts() {

@@ -3,8 +3,10 @@
 //! station files to write and to read.
 
 mod forms;
+mod replays;
 
 pub use forms::{forms, Fixing};
+pub use replays::{exchanges, exchanges_back, lists, long_sum, Replay};
 
 use crate::contenders::{Ask, Contender, Ended, PLAIN};
 use reference::plans::{
@@ -302,71 +304,6 @@ pub fn growing_sums() -> impl Iterator<Item = (String, Unfolding)> {
         let (count, unfolding) = longest_sum(area);
         (format!("{area} | {count}"), unfolding)
     })
-}
-
-/// A sum of actions with at most so many words, 7 or more, in which 1 + 2 stands at the front and
-/// at the end.
-pub fn long_sum(words: usize) -> Vec<u8> {
-    let mut plan = vec![1, 2, CHOICE];
-    while plan.len() + 6 <= words {
-        plan.extend([3, CHOICE]);
-    }
-    plan.extend([1, 2, CHOICE, CHOICE]);
-    plan
-}
-
-/// The steps measured of a replay with near places, and with far ones.
-pub const REPLAYED: (usize, usize) = (4000, 400);
-
-/// A rewriting to replay, and what is lent.
-pub struct Replay {
-    tables: Vec<u8>,
-    start: Vec<u8>,
-    rewriting: Vec<u8>,
-    a: Vec<u8>,
-    b: Vec<u8>,
-}
-
-/// Where the steps of a rewriting are.
-#[derive(Clone, Copy, Debug, PartialEq, Eq)]
-pub enum Places {
-    /// All at the same place, at the front.
-    Near,
-    /// In turns at the front and at the end.
-    Far,
-}
-
-impl Replay {
-    /// Exchanges of two actions (law 1) in a sum of at most so many words. Each place is used
-    /// an even number of times, so the last plan is the first.
-    pub fn new(words: usize, places: Places, steps: usize) -> Replay {
-        let start = long_sum(words);
-        let front = record(1, 2);
-        let end = record(1, start.len() - 2);
-        let rewriting = match places {
-            Places::Near => front.repeat(4 * (steps / 4)),
-            Places::Far => [front, end].concat().repeat(2 * (steps / 4)),
-        };
-        let (a, b) = (vec![0; start.len()], vec![0; start.len()]);
-        Replay {
-            tables: trial_tables(),
-            start,
-            rewriting,
-            a,
-            b,
-        }
-    }
-}
-
-impl Workload for Replay {
-    fn run(&mut self, contender: Contender) -> Ended {
-        let (tables, start, rewriting) = (&self.tables, &self.start, &self.rewriting);
-        (contender.check_rewriting)(tables, start, start, rewriting, &mut self.a, &mut self.b)
-    }
-
-    fn lent(&mut self) -> Vec<&mut [u8]> {
-        vec![&mut self.a, &mut self.b]
-    }
 }
 
 /// A text to read, and what is lent.
@@ -1017,16 +954,6 @@ mod tests {
         assert_eq!(ended, (0, unfolding.steps, 1));
         assert_eq!(bytes.len(), 3);
         assert!(bytes.concat().iter().all(|&byte| byte != UNTOUCHED));
-    }
-
-    #[test]
-    fn replays_are_accepted() {
-        for places in [Places::Near, Places::Far] {
-            for words in sizes() {
-                let mut replay = Replay::new(words, places, 10);
-                assert_eq!(replay.run(PLAIN), (0, 8, words - 1));
-            }
-        }
     }
 
     #[test]

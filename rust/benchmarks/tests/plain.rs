@@ -4,11 +4,12 @@
 use benchmarks::contenders::{Contender, PLAIN, REFERENCE};
 use benchmarks::plain;
 use benchmarks::workloads::{
-    counts, forms, precedences, station_files, stopped_merges, texts, walks, Unfolding, Workload,
-    MERGES, STOPPED_CHAINS,
+    counts, exchanges, exchanges_back, forms, lists, precedences, station_files, stopped_merges,
+    texts, walks, Replay, Unfolding, Workload, MERGES, STOPPED_CHAINS,
 };
 use differential::{compare, Answer, Call, Implementation, Reference};
 use reference::plans::LONGEST_PLAN;
+use reference::random::cases::{check_case, Checked};
 use reference::random::forms::{form_case, FormFixed};
 use reference::random::stations::{station_case, write_case, StationRead, StationWritten};
 use reference::random::Random;
@@ -80,6 +81,43 @@ fn long_plans_agree_with_the_reference() {
         same(&mut merge.longest(2, LONGEST_PLAN).1, REFERENCE);
     }
     same(&mut stopped_merges(STOPPED_CHAINS[0]), REFERENCE);
+}
+
+/// The rewritings of the benchmark, in both directions.
+#[test]
+fn rewritings_agree_with_the_reference() {
+    rewritings_agree(REFERENCE);
+}
+
+fn rewritings_agree(contender: Contender) {
+    let mut all: Vec<(String, Replay)> = exchanges();
+    all.extend(exchanges_back());
+    for (name, both) in lists() {
+        all.extend(both.map(|replay| (name.clone(), replay)));
+    }
+    for (name, mut replay) in all {
+        let (ended, lent) = replay.outcome(PLAIN);
+        assert_eq!(ended.0, 0, "{name}");
+        assert!((ended, lent) == replay.outcome(contender), "{name}");
+    }
+}
+
+/// Random rewritings to check, in both directions; every refusal and every ending is met.
+#[test]
+fn random_rewritings_are_checked_as_by_the_reference() {
+    let (random, mut numbers) = (&mut Random::new(1), BTreeSet::new());
+    for _ in 0..20_000 {
+        let case = check_case(random);
+        let (mut a, mut b) = (case.a.clone(), case.b.clone());
+        let (tables, start, claimed) = (&case.tables, &case.start, &case.claimed);
+        let answer =
+            plain::check_rewriting(tables, start, claimed, &case.rewriting, &mut a, &mut b);
+        numbers.insert(answer.number());
+        let same = Checked { answer, a, b } == case.run();
+        assert!(same, "{tables:?} {start:?} {:?}", case.rewriting);
+    }
+    let wanted = (0..=8).chain(11..=18).chain(31..=33).chain([75]);
+    assert_eq!(numbers, wanted.collect());
 }
 
 /// The texts of the benchmark.
@@ -210,6 +248,13 @@ fn random_files_are_read_as_by_the_reference() {
     }
     let wanted = [0].into_iter().chain(2..=8).chain(11..=14).chain(51..=55);
     assert_eq!(numbers, wanted.collect());
+}
+
+/// The rewritings of the benchmark, in both directions.
+#[cfg(feature = "archive")]
+#[test]
+fn rewritings_agree_with_the_proved_library() {
+    rewritings_agree(benchmarks::contenders::PROVED.expect("the archive is linked"));
 }
 
 /// The judgements of the benchmark.

@@ -4,15 +4,17 @@ use crate::answers::Answer;
 use crate::fixing::{FormOfFormCase, TwoFormsCase};
 use crate::implementation::{Call, Implementation};
 use crate::round_trips::{RereadCase, RewriteCase};
+use crate::turning::TurnedCase;
 use crate::walking::Walking;
 use reference::plans::{judge_plan, operands, LONGEST_PLAN};
 use reference::random::cases::{
-    check_case, own_rewriting_case, tables_and_plan, unfold_case_of, CheckCase, UnfoldCase,
+    any_derivation, check_case, own_rewriting_case, tables_and_plan, unfold_case_of, CheckCase,
+    UnfoldCase,
 };
 use reference::random::forms::{form_case, FormCase};
 use reference::random::plans::{basic_plan, plan, repeating_basic_plan};
 use reference::random::precedence::{precedence_case, PrecedenceCase};
-use reference::random::rewritings::{damage_rewriting, derivation};
+use reference::random::rewritings::damage_rewriting;
 use reference::random::stations::{any_file, station_case, write_case, StationCase, WriteCase};
 use reference::random::tables::{damaged_tables, lawful_tables};
 use reference::random::texts::{long_text, text_case, text_case_of, TextCase};
@@ -23,8 +25,8 @@ use reference::random::Random;
 use reference::stations::{program, station_file};
 use reference::tables::trial_tables;
 
-/// One call, with everything handed to it; or the calls of one walk, of one round trip, or of two
-/// forms.
+/// One call, with everything handed to it; or the calls of one walk, of one round trip, of two
+/// forms, or of a rewriting and the same turned round.
 #[derive(Clone, Debug)]
 pub enum Case {
     /// Tables to judge.
@@ -39,6 +41,8 @@ pub enum Case {
     Unfold(UnfoldCase),
     /// A rewriting to check.
     CheckRewriting(CheckCase),
+    /// A rewriting to check, and the same turned round.
+    TurnedRound(TurnedCase),
     /// A station file to read.
     ReadStation(StationCase),
     /// A station file to write.
@@ -164,11 +168,14 @@ impl Case {
             9 => {
                 let unfolding = any_unfolding(random);
                 match own_rewriting_case(&unfolding) {
-                    Some(own) => Case::CheckRewriting(own),
+                    Some(own) => checked_and_turned(random, own, 2),
                     None => Case::Unfold(unfolding),
                 }
             }
-            10..=13 => Case::CheckRewriting(any_check(random)),
+            10..=13 => {
+                let check = any_check(random);
+                checked_and_turned(random, check, 4)
+            }
             14 | 15 => Case::ReadStation(any_station(random)),
             16 | 17 => Case::UnfoldChecked(any_checked(random)),
             18 => Case::Reached(any_reached(random)),
@@ -185,8 +192,8 @@ impl Case {
         }
     }
 
-    /// Makes the call, or the calls of a walk, of a round trip or of two forms, leaving the case as it
-    /// is.
+    /// Makes the call, or the calls of a walk, of a round trip, of two forms or of a rewriting turned
+    /// round, leaving the case as it is.
     pub fn run(&self, implementation: &impl Implementation) -> Outcome {
         match self {
             Case::FreshWalk(case) => Walking::before(case).begin(implementation),
@@ -196,6 +203,7 @@ impl Case {
             Case::Rewrite(case) => case.run(implementation),
             Case::FormOfForm(case) => case.run(implementation),
             Case::TwoForms(case) => case.run(implementation),
+            Case::TurnedRound(case) => case.run(implementation),
             _ => self.make_call(implementation),
         }
     }
@@ -324,22 +332,31 @@ fn any_check(random: &mut Random) -> CheckCase {
     check_case(random)
 }
 
-/// A derivation from a long plan, its steps at places far from each other.
+/// A rewriting to check; once in so many times, where it is accepted, turned round as well.
+fn checked_and_turned(random: &mut Random, check: CheckCase, once_in: usize) -> Case {
+    let turned = match random.once_in(once_in) {
+        true => TurnedCase::of(random, &check),
+        false => None,
+    };
+    turned.map_or(Case::CheckRewriting(check), Case::TurnedRound)
+}
+
+/// A derivation with a long plan at one of its ends, its steps at places far from each other.
 fn long_check(random: &mut Random) -> CheckCase {
-    let (tables, mut start) = with_long_plan(random);
-    start.truncate(LONGEST_PLAN);
-    if judge_plan(&tables, &start).is_err() {
-        start = vec![0];
+    let (tables, mut plan) = with_long_plan(random);
+    plan.truncate(LONGEST_PLAN);
+    if judge_plan(&tables, &plan).is_err() {
+        plan = vec![0];
     }
-    let made = derivation(random, &tables, &start, 8, LONGEST_PLAN);
+    let made = any_derivation(random, &tables, &plan, 8);
     let area = random.near(made.longest, &[LONGEST_PLAN, LONGEST_PLAN + 1]);
     let mut rewriting = made.rewriting;
     if random.once_in(3) {
-        damage_rewriting(random, &mut rewriting, made.end.len());
+        damage_rewriting(random, &tables, &mut rewriting, &made.end);
     }
     CheckCase {
         tables,
-        start,
+        start: made.start,
         claimed: made.end,
         rewriting,
         a: random.lent(area),

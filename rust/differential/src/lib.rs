@@ -15,6 +15,7 @@ mod implementation;
 mod printing;
 mod round_trips;
 mod shrink;
+mod turning;
 mod walking;
 
 pub use answers::Answer;
@@ -25,3 +26,4 @@ pub use fixing::{FormOfFormCase, TwoFormsCase};
 pub use implementation::Proved;
 pub use implementation::{Call, Implementation, Reference};
 pub use round_trips::{RereadCase, RewriteCase};
+pub use turning::TurnedCase;

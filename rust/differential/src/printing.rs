@@ -2,10 +2,11 @@
 
 use crate::cases::{Case, Outcome};
 use crate::compare::{Agreement, Difference};
-use reference::random::cases::UnfoldCase;
+use reference::random::cases::{CheckCase, UnfoldCase};
 use reference::random::forms::FormCase;
 use reference::random::stations::{StationCase, WriteCase};
 use reference::random::walks::FreshWalkCase;
+use reference::records::first_record;
 use std::fmt;
 
 /// Bytes: as they are, or in short where there are many and all are the same, or very many and most
@@ -45,6 +46,39 @@ impl fmt::Display for Sparse<'_> {
     }
 }
 
+/// The records of a rewriting, a line for each of the first ones, and what is behind the last whole
+/// one.
+struct Steps<'t>(&'t [u8]);
+
+/// So many records have a line.
+const MOST_STEPS: usize = 40;
+
+impl fmt::Display for Steps<'_> {
+    fn fmt(&self, f: &mut fmt::Formatter<'_>) -> fmt::Result {
+        let mut rest = self.0;
+        for step in 0..MOST_STEPS {
+            let Some((record, behind)) = first_record(rest) else {
+                break;
+            };
+            write!(f, "    step {step}: ")?;
+            match (record.law(), record.left) {
+                (None, _) => writeln!(f, "no law {}", record.first)?,
+                (Some(law), None) => writeln!(f, "law {law} at {}", record.place)?,
+                (Some(law), Some(left)) => {
+                    let from = Bytes(left);
+                    writeln!(f, "law {law} at {}, backwards to {from}", record.place)?;
+                }
+            }
+            rest = behind;
+        }
+        match (rest.len(), first_record(rest)) {
+            (0, _) => Ok(()),
+            (bytes, Some(_)) => writeln!(f, "    further steps: {bytes} bytes"),
+            (_, None) => writeln!(f, "    cut short: {}", Bytes(rest)),
+        }
+    }
+}
+
 impl fmt::Display for Case {
     fn fmt(&self, f: &mut fmt::Formatter<'_>) -> fmt::Result {
         match self {
@@ -56,12 +90,12 @@ impl fmt::Display for Case {
             Case::IsBasic(tables, plan) => judged(f, "is_basic", tables, plan),
             Case::CountOrders(tables, plan) => judged(f, "count_orders", tables, plan),
             Case::Unfold(case) => unfolding(f, "unfold", case),
-            Case::CheckRewriting(case) => {
-                judged(f, "check_rewriting", &case.tables, &case.start)?;
-                writeln!(f, "  claimed: {}", Bytes(&case.claimed))?;
-                writeln!(f, "  rewriting: {}", Bytes(&case.rewriting))?;
-                writeln!(f, "  a: {}", Bytes(&case.a))?;
-                writeln!(f, "  b: {}", Bytes(&case.b))
+            Case::CheckRewriting(case) => checking(f, "check_rewriting", case),
+            Case::TurnedRound(case) => {
+                let calls = "check_rewriting, then check_rewriting turned round";
+                checking(f, calls, &case.checking)?;
+                writeln!(f, "  c: {}", Bytes(&case.c))?;
+                writeln!(f, "  d: {}", Bytes(&case.d))
             }
             Case::ReadStation(case) => reading(f, "read_station", case),
             Case::WriteStation(case) => writing(f, "write_station", case),
@@ -128,6 +162,15 @@ fn unfolding(f: &mut fmt::Formatter<'_>, call: &str, case: &UnfoldCase) -> fmt::
     judged(f, call, &case.tables, &case.plan)?;
     writeln!(f, "  allowance: {}", case.allowance)?;
     writeln!(f, "  list: {}", Bytes(&case.list))?;
+    writeln!(f, "  a: {}", Bytes(&case.a))?;
+    writeln!(f, "  b: {}", Bytes(&case.b))
+}
+
+fn checking(f: &mut fmt::Formatter<'_>, calls: &str, case: &CheckCase) -> fmt::Result {
+    judged(f, calls, &case.tables, &case.start)?;
+    writeln!(f, "  claimed: {}", Bytes(&case.claimed))?;
+    writeln!(f, "  rewriting: {}", Bytes(&case.rewriting))?;
+    write!(f, "{}", Steps(&case.rewriting))?;
     writeln!(f, "  a: {}", Bytes(&case.a))?;
     writeln!(f, "  b: {}", Bytes(&case.b))
 }

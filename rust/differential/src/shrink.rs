@@ -3,14 +3,17 @@
 use crate::cases::{Case, CheckedCase, ListCase, ReachedCase};
 use crate::fixing::{FormOfFormCase, TwoFormsCase};
 use crate::round_trips::{RereadCase, RewriteCase};
+use crate::turning::TurnedCase;
 use reference::forms::form;
 use reference::plans::{is_basic, judge, operands, subplan, LONGEST_PLAN};
 use reference::random::cases::{CheckCase, UnfoldCase};
 use reference::random::forms::FormCase;
 use reference::random::precedence::PrecedenceCase;
+use reference::random::rewritings::spans;
 use reference::random::stations::{file_length, StationCase, WriteCase};
 use reference::random::texts::TextCase;
 use reference::random::walks::{FreshWalkCase, MessagesCase, WalkCase};
+use reference::records::{first_record, Record};
 use reference::stations::{read_station, station_file};
 use reference::tables::{trial_tables, TABLES_LENGTH};
 use reference::texts::{read_text, typed};
@@ -23,6 +26,8 @@ use std::ops::Range;
 const MOST_TRIES: usize = 3000;
 /// What lent bytes are made alike to.
 const LENT: u8 = 255;
+/// What a rewriting and the same turned round weigh more than the former.
+const TWO_CALLS: u64 = 1 << 40;
 
 /// A case that is interesting and has no smaller interesting one among those tried.
 pub fn shrink(case: Case, interesting: impl Fn(&Case) -> bool) -> Case {
@@ -50,7 +55,8 @@ fn smaller(case: &Case) -> Vec<Case> {
         Case::IsBasic(tables, plan) => smaller_judged(tables, plan, Case::IsBasic),
         Case::CountOrders(tables, plan) => smaller_judged(tables, plan, Case::CountOrders),
         Case::Unfold(case) => each(smaller_unfoldings(case), Case::Unfold),
-        Case::CheckRewriting(case) => smaller_checks(case),
+        Case::CheckRewriting(case) => each(smaller_checks(case), Case::CheckRewriting),
+        Case::TurnedRound(case) => smaller_turned(case),
         Case::ReadStation(case) => each(smaller_stations(case), Case::ReadStation),
         Case::WriteStation(case) => each(smaller_writings(case), Case::WriteStation),
         Case::Reread(case) => smaller_rereads(case),
@@ -83,9 +89,10 @@ fn weight(case: &Case) -> u64 {
         | Case::IsBasic(tables, plan)
         | Case::CountOrders(tables, plan) => bytes(&[tables, plan]),
         Case::Unfold(case) => unfolding_weight(case),
-        Case::CheckRewriting(case) => {
-            let handed_in = bytes(&[&case.tables, &case.start, &case.claimed, &case.rewriting]);
-            handed_in + unlike(&[&case.a, &case.b])
+        Case::CheckRewriting(case) => checking_weight(case),
+        // More than either call alone: turned round, a rewriting may be much longer.
+        Case::TurnedRound(case) => {
+            checking_weight(&case.checking) + unlike(&[&case.c, &case.d]) + TWO_CALLS
         }
         Case::ReadStation(case) => reading_weight(case),
         Case::WriteStation(case) => writing_weight(case),
@@ -117,6 +124,12 @@ fn weight(case: &Case) -> u64 {
             fixing_weight(&case.fixing) + bytes(&[&case.plan]) + unlike(&[&case.area]) + 1
         }
     }
+}
+
+fn checking_weight(case: &CheckCase) -> u64 {
+    let handed_in = [&case.tables, &case.start, &case.claimed, &case.rewriting];
+    let bytes = handed_in.map(|slice| 4 * slice.len() + set(slice));
+    bytes.iter().sum::<usize>() as u64 + unlike(&[&case.a, &case.b])
 }
 
 fn reading_weight(case: &StationCase) -> u64 {
@@ -313,9 +326,9 @@ fn smaller_precedences(case: &PrecedenceCase) -> Vec<Case> {
     each(changed.found, Case::Precedes)
 }
 
-fn smaller_checks(case: &CheckCase) -> Vec<Case> {
+fn smaller_checks(case: &CheckCase) -> Vec<CheckCase> {
     let rewritings = smaller_rewritings(&case.rewriting);
-    let changed = Changed::of(case)
+    Changed::of(case)
         .with(rewritings, |case, rewriting| case.rewriting = rewriting)
         .with(smaller_plans(&case.start), |case, start| case.start = start)
         .with(vec![case.start.clone()], |case, start| case.claimed = start)
@@ -326,8 +339,23 @@ fn smaller_checks(case: &CheckCase) -> Vec<Case> {
         .with(smaller_lent(&case.b), |case, b| case.b = b)
         .with(smaller_tables(&case.tables), |case, tables| {
             case.tables = tables
-        });
-    each(changed.found, Case::CheckRewriting)
+        })
+        .found
+}
+
+/// One of the two calls alone, or both with a part made smaller.
+fn smaller_turned(case: &TurnedCase) -> Vec<Case> {
+    let mut alone = vec![case.checking.clone()];
+    alone.extend(case.second());
+    let changed = Changed::of(case)
+        .with(smaller_checks(&case.checking), |case, checking| {
+            case.checking = checking
+        })
+        .with(smaller_lent(&case.c), |case, c| case.c = c)
+        .with(smaller_lent(&case.d), |case, d| case.d = d);
+    let mut found = each(alone, Case::CheckRewriting);
+    found.extend(each(changed.found, Case::TurnedRound));
+    found
 }
 
 fn smaller_stations(case: &StationCase) -> Vec<StationCase> {
@@ -504,21 +532,35 @@ fn smaller_written(area: &[u8], length: usize) -> Vec<Vec<u8>> {
     found
 }
 
-/// Beginnings, and the rewriting without one of its first records.
+/// Beginnings, the rewriting without one of its first records, or with a smaller left side in one.
 fn smaller_rewritings(rewriting: &[u8]) -> Vec<Vec<u8>> {
-    let beginnings = smaller_numbers(rewriting.len()).into_iter();
-    let mut found: Vec<Vec<u8>> = beginnings
-        .map(|length| rewriting[..length].to_vec())
-        .collect();
-    for at in (0..rewriting.len() / RECORD)
-        .take(64)
-        .map(|step| RECORD * step)
-    {
-        let mut shorter = rewriting.to_vec();
-        shorter.drain(at..at + RECORD);
-        found.push(shorter);
+    let spans = spans(rewriting);
+    let halves = smaller_numbers(spans.len()).into_iter();
+    let mut lengths: Vec<usize> = halves.map(|step| spans[step].start).collect();
+    lengths.extend(smaller_numbers(rewriting.len()));
+    let beginnings = lengths.iter().map(|&length| rewriting[..length].to_vec());
+    let mut found: Vec<Vec<u8>> = beginnings.collect();
+    let first = spans.iter().take(64).cloned();
+    found.extend(first.map(|span| left_out(span).of(rewriting, 0)));
+    for span in spans.iter().take(16) {
+        let smaller = smaller_records(&rewriting[span.clone()]).into_iter();
+        let behind = &rewriting[span.end..];
+        found.extend(smaller.map(|record| [&rewriting[..span.start], &record, behind].concat()));
     }
     found
+}
+
+/// Of a step backwards, records with a smaller left side.
+fn smaller_records(record: &[u8]) -> Vec<Vec<u8>> {
+    let Some((record, _)) = first_record(record) else {
+        return Vec::new();
+    };
+    let lefts = record.left.map_or(Vec::new(), smaller_plans);
+    let with = |left: &Vec<u8>| {
+        let left = Some(&left[..]);
+        Record { left, ..record }.bytes()
+    };
+    lefts.iter().map(with).collect()
 }
 
 /// Beginnings, and the list without one of its messages.

@@ -1,14 +1,19 @@
 //! The comparison finds damage: copies of the reference, each with one thing changed.
 
+mod checker;
+
 use differential::{compare, Answer, Call, Case, Implementation, Outcome, Reference};
 use reference::forms::form;
-use reference::plans::{counts, is_basic, starts, subplan};
+use reference::plans::{counts, is_basic, judge_plan, starts, subplan};
 use reference::precedence::Precedence;
+use reference::random::cases::{turned_case, CheckCase};
 use reference::random::forms::FormCase;
 use reference::random::precedence::PrecedenceCase;
+use reference::random::rewritings::spans;
 use reference::random::stations::WriteCase;
 use reference::random::Random;
 use reference::reading::paths_of;
+use reference::records::{cut, Record};
 use reference::stations::{put_sum, put_word, station_file};
 use reference::trees::alike;
 use std::cmp::Ordering;
@@ -286,11 +291,77 @@ enum Damage {
     FormRefused,
     /// Where the area is too short, the form's length is the place.
     FormPlace,
+    /// A left side's length is read high byte first.
+    BackHigh,
+    /// A left side's length is read from its low byte alone.
+    BackByte,
+    /// A rewriting whose bytes are no multiple of three is cut short.
+    BackThrees,
+    /// A left side that is cut short is taken as far as it goes.
+    BackTail,
+    /// An unknown first byte counts as a record of one.
+    BackUnknown,
+    /// 128 is taken for a step backwards.
+    BackZero,
+    /// 161 is taken for a step backwards.
+    BackAbove,
+    /// 160 is unknown.
+    BackTop,
+    /// 75 comes before 17.
+    BackOrder,
+    /// A left side is judged when its step is reached.
+    BackLate,
+    /// 75 has the last such step.
+    BackLast,
+    /// 75 has the place 0.
+    BackNowhere,
+    /// A step's index is that of its first byte, by threes.
+    BackThirds,
+    /// A left side longer than C gets 75.
+    BackRoom,
+    /// A left side of 16,384 words gets 75.
+    BackLong,
+    /// An empty left side is not refused; its step does not fit.
+    BackEmpty,
+    /// A left side with more than one plan left over is not refused.
+    BackOver,
+    /// A left side may have actions above n.
+    BackActions,
+    /// The left side is not compared: that the law fits it is enough.
+    BackAny,
+    /// What the law gives is compared by its length alone.
+    BackLength,
+    /// The law is applied to the subplan, and must give the left side.
+    BackForwards,
+    /// What a law asks besides its left side is not asked.
+    BackConditions,
+    /// The law is applied at the first of the carried words.
+    BackFirst,
+    /// The law may be applied at any of the carried words.
+    BackInner,
+    /// The place is that of the left side in the next plan.
+    BackMoved,
+    /// A place past the end is that of the last word.
+    BackPast,
+    /// The left side replaces the whole plan.
+    BackWhole,
+    /// The subplan stays as it is.
+    BackRight,
+    /// A left side longer than C gets 32 before 31.
+    BackLonger,
+    /// 32 counts the words of the subplan that is replaced, too.
+    BackBoth,
+    /// A step backwards to a plan of exactly C words gets 32.
+    BackTight,
+    /// The areas go by the bytes of the steps made, by threes.
+    BackParity,
+    /// A step backwards is not counted.
+    BackSteps,
 }
 
 use Damage::*;
 
-const ALL: [Damage; 133] = [
+const ALL: [Damage; 166] = [
     MostActions,
     TripleWeight,
     LongestPlan,
@@ -424,6 +495,39 @@ const ALL: [Damage; 133] = [
     FormTables,
     FormRefused,
     FormPlace,
+    BackHigh,
+    BackByte,
+    BackThrees,
+    BackTail,
+    BackUnknown,
+    BackZero,
+    BackAbove,
+    BackTop,
+    BackOrder,
+    BackLate,
+    BackLast,
+    BackNowhere,
+    BackThirds,
+    BackRoom,
+    BackLong,
+    BackEmpty,
+    BackOver,
+    BackActions,
+    BackAny,
+    BackLength,
+    BackForwards,
+    BackConditions,
+    BackFirst,
+    BackInner,
+    BackMoved,
+    BackPast,
+    BackWhole,
+    BackRight,
+    BackLonger,
+    BackBoth,
+    BackTight,
+    BackParity,
+    BackSteps,
 ];
 
 /// The reference with damage.
@@ -543,43 +647,6 @@ impl Damaged {
                 (NoStep, Some(byte)) if answer.values[0] == 0 => *byte = 1,
                 _ => {}
             }
-        }
-        answer
-    }
-
-    fn check_rewriting(
-        &self,
-        tables: &[u8],
-        start: &[u8],
-        claimed: &[u8],
-        rewriting: &[u8],
-        a: &mut [u8],
-        b: &mut [u8],
-    ) -> Answer {
-        let mut read = rewriting.to_vec();
-        for record in read.chunks_exact_mut(3) {
-            match self.0 {
-                Laws if record[0] == 32 => record[0] = 33,
-                PlaceWeight if record[2] > 0 => {
-                    let place = 255 * record[2] as usize + record[1] as usize;
-                    record[1] = (place % 256) as u8;
-                    record[2] = (place / 256) as u8;
-                }
-                _ => {}
-            }
-        }
-        let mut answer =
-            Reference.answer(Call::CheckRewriting(tables, start, claimed, &read, a, b));
-        let [steps, size] = answer.values;
-        match self.0 {
-            Claim if answer.number == 33 && size == claimed.len() => {
-                let reached = if steps % 2 == 0 { &a } else { &b };
-                if reached[..size - 1] == claimed[..size - 1] {
-                    answer.number = 0;
-                }
-            }
-            FirstStep if answer.number == 17 => answer.place += 1,
-            _ => {}
         }
         answer
     }
@@ -1237,7 +1304,7 @@ fn an_undamaged_copy_agrees() {
     assert_eq!(agreement.numbers.values().sum::<u64>(), 4000);
     // Every number but some rare ones comes up.
     let met: Vec<u8> = agreement.numbers.into_keys().collect();
-    let listed = [1..=8, 11..=18, 31..=36, 51..=55, 61..=63, 70..=74];
+    let listed = [1..=8, 11..=18, 31..=36, 51..=55, 61..=63, 70..=75];
     for number in listed.into_iter().flatten() {
         assert!(met.contains(&number), "{number}");
     }
@@ -1257,6 +1324,21 @@ fn an_undamaged_copy_makes_forms() {
         }
     }
     assert!(made > 300, "{made}");
+}
+
+/// The same of rewritings: the checker's copy answers as the reference where nothing is damaged.
+#[test]
+fn an_undamaged_copy_checks() {
+    let mut checked = 0;
+    for seed in 0..60_000 {
+        let case = Case::draw(seed);
+        if let Case::CheckRewriting(_) | Case::TurnedRound(_) = case {
+            let [first, second] = [case.run(&Reference), case.run(&Damaged(Nothing))];
+            assert!(first == second, "{seed}");
+            checked += 1;
+        }
+    }
+    assert!(checked > 6000, "{checked}");
 }
 
 #[test]
@@ -1447,6 +1529,93 @@ fn a_form_is_made_small_and_printed() {
 }
 
 #[test]
+fn a_rewriting_is_made_small_and_printed() {
+    let difference = compare(&Reference, &Damaged(BackHigh), 10_000, 3).unwrap_err();
+    let Case::CheckRewriting(case) = &difference.case else {
+        panic!("{difference}");
+    };
+    // One step backwards with one word is enough.
+    let records = cut(&case.rewriting).unwrap();
+    assert_eq!(records.len(), 1, "{difference}");
+    assert_eq!(case.rewriting[3..5], [1, 0], "{difference}");
+    assert_eq!((&case.start[..], case.a.len()), (&[0][..], 1));
+    let printed = difference.to_string();
+    assert!(printed.contains("check_rewriting\n  tables: "), "{printed}");
+    assert!(printed.contains("  rewriting: [1"), "{printed}");
+    assert!(printed.contains("    step 0: law "), "{printed}");
+    assert!(printed.contains(", backwards to ["), "{printed}");
+    assert!(printed.contains("  second: number 16, values [0, 0], place 0\n"));
+    // Whole records are left out, so that what is behind them stays.
+    let difference = compare(&Reference, &Damaged(BackOrder), 10_000, 3).unwrap_err();
+    let Case::CheckRewriting(case) = &difference.case else {
+        panic!("{difference}");
+    };
+    assert_eq!(case.rewriting.len(), 8, "{difference}");
+    let printed = difference.to_string();
+    assert!(printed.contains(", backwards to []\n"), "{printed}");
+    assert!(printed.contains(": no law "), "{printed}");
+    assert!(printed.contains("  first: number 17, values [0, 0], place "));
+    assert!(printed.contains("  second: number 75, values [0, 0], place "));
+}
+
+#[test]
+fn rewritings_are_printed() {
+    let case = |rewriting: Vec<u8>| {
+        Case::CheckRewriting(CheckCase {
+            tables: vec![4],
+            start: vec![1],
+            claimed: vec![1],
+            rewriting,
+            a: vec![255; 9],
+            b: vec![],
+        })
+    };
+    let both = [
+        &[11, 2, 1, 139, 10, 0, 3, 0, 1, 2, 66][..],
+        &[128, 0, 0, 129, 1],
+    ];
+    let printed = case(both.concat()).to_string();
+    let steps = [
+        "    step 0: law 11 at 258",
+        "    step 1: law 11 at 10, backwards to [1, 2, 66]",
+        "    step 2: no law 128",
+        "    cut short: [129, 1]",
+        "  a: [255; 9]",
+    ];
+    assert!(printed.contains(&steps.join("\n")), "{printed}");
+    // Of many steps the first ones.
+    let printed = case([1, 2, 0].repeat(42)).to_string();
+    let last = "    step 39: law 1 at 2\n    further steps: 6 bytes\n  a: ";
+    assert!(printed.contains(last), "{printed}");
+    assert!(case(vec![]).to_string().contains("  rewriting: []\n  a: "));
+}
+
+#[test]
+fn a_rewriting_turned_round_is_made_small_and_printed() {
+    let drawn = (0..).map(Case::draw);
+    let mut drawn = drawn.filter(|case| matches!(case, Case::TurnedRound(_)));
+    let printed = drawn.next().unwrap().to_string();
+    let calls = "check_rewriting, then check_rewriting turned round\n  tables: ";
+    assert!(printed.starts_with(calls), "{printed}");
+    assert!(printed.contains("\n  c: ["), "{printed}");
+    assert!(printed.contains("\n  d: ["), "{printed}");
+    // Of two calls one is enough, and of its steps one.
+    let damaged = (0..200).map(|seed| compare(&Reference, &Damaged(BackSteps), 10_000, seed));
+    let turned = damaged.filter_map(Result::err).find(|difference| {
+        let drawn = Case::draw(difference.seed);
+        matches!(drawn, Case::TurnedRound(_))
+    });
+    let difference = turned.unwrap();
+    let Case::CheckRewriting(case) = &difference.case else {
+        panic!("{difference}");
+    };
+    assert_eq!(cut(&case.rewriting).unwrap().len(), 1, "{difference}");
+    let printed = difference.to_string();
+    assert!(printed.contains("  first: number "), "{printed}");
+    assert!(printed.contains(", values [1, "), "{printed}");
+}
+
+#[test]
 fn two_forms_are_printed() {
     let drawn = |is_wanted: fn(&Case) -> bool| (0..).map(Case::draw).find(is_wanted).unwrap();
     let of_form = drawn(|case| matches!(case, Case::FormOfForm(_))).to_string();
@@ -1461,24 +1630,36 @@ fn two_forms_are_printed() {
 
 #[test]
 fn every_law_is_used() {
-    let (mut unfolded, mut checked) = (BTreeSet::new(), BTreeSet::new());
-    for seed in 0..6000 {
+    let mut unfolded = BTreeSet::new();
+    let mut checked = [BTreeSet::new(), BTreeSet::new()];
+    for seed in 0..16_000 {
         let case = Case::draw(seed);
         let outcome = case.run(&Reference);
         let steps = outcome.answer.values[0];
         match case {
-            Case::Unfold(_) => unfolded.extend(laws(&outcome.lent[0], steps)),
-            Case::CheckRewriting(case) => checked.extend(laws(&case.rewriting, steps)),
+            Case::Unfold(_) => {
+                let records = outcome.lent[0].chunks(3).take(steps);
+                unfolded.extend(records.map(|step| step[0]));
+            }
+            Case::CheckRewriting(case) => note_laws(&case.rewriting, steps, &mut checked),
+            Case::TurnedRound(case) => {
+                let second = turned_case(&case.checking).unwrap();
+                note_laws(&second.rewriting, steps, &mut checked);
+            }
             _ => {}
         }
     }
     assert_eq!(unfolded, (5..=32).collect());
-    assert_eq!(checked, (1..=32).collect());
+    assert_eq!(checked, [(1..=32).collect(), (1..=32).collect()]);
 }
 
-/// The laws of the first so many records.
-fn laws(records: &[u8], steps: usize) -> Vec<u8> {
-    records.chunks(3).take(steps).map(|step| step[0]).collect()
+/// Notes the laws of the first so many records, forwards and backwards.
+fn note_laws(rewriting: &[u8], steps: usize, laws: &mut [BTreeSet<u8>; 2]) {
+    let records = cut(rewriting).unwrap_or_default();
+    for record in records.iter().take(steps) {
+        let way = usize::from(record.left.is_some());
+        laws[way].extend(record.law());
+    }
 }
 
 #[test]
@@ -1814,6 +1995,164 @@ fn every_kind_of_writing_is_drawn() {
     for size in [1, 503, 504, 505, 1008, 16_128, 16_129, 16_384] {
         assert!(sizes.contains(&size), "{size}");
     }
+}
+
+/// The kinds of a check by its answer, and by the records around the one that counts.
+fn kinds_of_check(case: &CheckCase, answer: Answer) -> Vec<&'static str> {
+    let no_plan = |record: &Record| {
+        let refused = |left: &[u8]| judge_plan(&case.tables, left).is_err();
+        record.left.is_some_and(refused)
+    };
+    let whole = spans(&case.rewriting).last().map_or(0, |last| last.end);
+    let (whole, rest) = case.rewriting.split_at(whole);
+    let records = cut(whole).unwrap();
+    let unknown = records.iter().any(|record| record.law().is_none());
+    let back = |steps: usize| {
+        records
+            .get(steps)
+            .is_some_and(|record| record.left.is_some())
+    };
+    let [steps, _] = answer.values;
+    let mut kinds = Vec::new();
+    match answer.number {
+        1..=8 => kinds.push("tables"),
+        11..=14 => kinds.push("plan"),
+        15 => kinds.push("15"),
+        18 => kinds.push("18"),
+        16 => {
+            kinds.push(match rest.len() {
+                1 | 2 => "16 in the place",
+                3 | 4 => "16 in the length",
+                _ => "16 in the words",
+            });
+            kinds.extend(unknown.then_some("16 before 17"));
+            kinds.extend(records.iter().any(no_plan).then_some("16 before 75"));
+        }
+        17 => {
+            kinds.push(match records[answer.place].first {
+                0 => "17 for 0",
+                128 => "17 for 128",
+                161 => "17 for 161",
+                _ => "17 for another byte",
+            });
+            kinds.extend(records.iter().any(no_plan).then_some("17 before 75"));
+        }
+        75 => {
+            let left = records[answer.place].left.unwrap();
+            let why = judge_plan(&case.tables, left).unwrap_err().number;
+            kinds.push(match (why, left.len()) {
+                (11, 0) => "75 for no words",
+                (11, _) => "75 for too many words",
+                (12, _) => "75 for no word",
+                (13, _) => "75 for too few operands",
+                _ => "75 for plans left over",
+            });
+            kinds.extend((answer.place > 0).then_some("75 at a later step"));
+        }
+        31 if back(steps) => kinds.push("31 backwards"),
+        31 => kinds.push("31 forwards"),
+        32 if back(steps) => kinds.push("32 backwards"),
+        32 => kinds.push("32 forwards"),
+        33 => kinds.push("33"),
+        _ if steps == 0 => kinds.push("accepted, no step"),
+        _ => {
+            let backwards = (0..steps).filter(|&step| back(step)).count();
+            kinds.push(match backwards {
+                0 => "accepted, forwards",
+                _ if backwards == steps => "accepted, backwards",
+                _ => "accepted, both ways",
+            });
+        }
+    }
+    kinds
+}
+
+#[test]
+fn every_kind_of_check_is_drawn() {
+    let (mut met, mut numbers) = (BTreeMap::new(), BTreeSet::new());
+    for seed in 0..60_000 {
+        let case = Case::draw(seed);
+        if let Case::CheckRewriting(check) = &case {
+            let answer = case.run(&Reference).answer;
+            numbers.insert(answer.number);
+            for kind in kinds_of_check(check, answer) {
+                *met.entry(kind).or_insert(0) += 1;
+            }
+        }
+    }
+    let kinds: Vec<&str> = met.keys().copied().collect();
+    assert_eq!(
+        kinds,
+        [
+            "15",
+            "16 before 17",
+            "16 before 75",
+            "16 in the length",
+            "16 in the place",
+            "16 in the words",
+            "17 before 75",
+            "17 for 0",
+            "17 for 128",
+            "17 for 161",
+            "17 for another byte",
+            "18",
+            "31 backwards",
+            "31 forwards",
+            "32 backwards",
+            "32 forwards",
+            "33",
+            "75 at a later step",
+            "75 for no word",
+            "75 for no words",
+            "75 for plans left over",
+            "75 for too few operands",
+            "75 for too many words",
+            "accepted, backwards",
+            "accepted, both ways",
+            "accepted, forwards",
+            "accepted, no step",
+            "plan",
+            "tables"
+        ]
+    );
+    assert!(met.values().all(|&count| count > 5), "{met:?}");
+    let all = (0..=8).chain(11..=18).chain(31..=33).chain([75]);
+    assert_eq!(numbers, all.collect());
+}
+
+#[test]
+fn rewritings_turned_round_come_back() {
+    let (mut accepted, mut others, mut longest) = (0, 0, 0);
+    for seed in 0..32_000 {
+        let case = Case::draw(seed);
+        let Case::TurnedRound(turned) = &case else {
+            continue;
+        };
+        let outcome = case.run(&Reference);
+        let [before] = &outcome.before[..] else {
+            panic!("{seed}");
+        };
+        assert_eq!(before.answer.number, 0);
+        let start = &turned.checking.start;
+        match outcome.answer.number {
+            0 => {
+                // As many steps, and the start plan is reached.
+                let [steps, size] = outcome.answer.values;
+                assert_eq!((steps, size), (before.answer.values[0], start.len()));
+                let area = &outcome.lent[steps % 2];
+                assert_eq!(area[..size], start[..], "{seed}");
+                longest = longest.max(steps);
+                accepted += 1;
+            }
+            // The second areas may be too short.
+            number => {
+                assert!([15, 32].contains(&number), "{seed}");
+                others += 1;
+            }
+        }
+    }
+    assert!(accepted > 200 && others > 10, "{accepted} {others}");
+    assert!(longest > 100, "{longest}");
 }
 
 #[test]

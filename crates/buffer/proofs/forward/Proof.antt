@@ -16,7 +16,7 @@ start-of-next-requires c κs =
     let few = s .pre .0 .0 in
     let more = s .pre .0 .1 in
     let h = s .pre .0 .2 in
-    ((few, omega (arith, more, h .apart), h .starts-long), next-word _ _ _ _ _ _ few more h (s .pre .1) .0)
+    ((few, omega (arith, more, h .apart), omega (arith, more, h .apart, h .starts-long)), next-word _ _ _ _ _ _ few more h (s .pre .1) .0)
 
 mul-starts : tie.Need-mul-starts
 mul-starts c = search needs

@@ -95,7 +95,7 @@ replay-on-requires c κs =
     let p = s .pre in
     let l = d .load .ensures in
     let most : s .args .limit ≤ most-words = omega (arith, p .1, capacity-most (s .args .a .now) (s .args .b .now)) in (
-      (d .before .before .actions-of .ensures, lawful _ _ (p .0), most, refl, p .3),
+      (d .before .before .actions-of .ensures, lawful _ _ (p .0), most, refl, p .3, rw (d .before .before .actions-of .ensures) (p .4)),
       (
         loaded-working _ _ _ _ (l .0) (l .1) _ _ (p .0) refl refl (l .2),
         loaded-kept _ _ _ _ (l .0) (l .1) _ _ (p .2),

@@ -8,7 +8,7 @@ use Rattle.plans.specs.Judging.{plan-refusal}
 use Rattle.plans.proofs.Accepted.{plan-accepted-iff, few-actions}
 use Rattle.areas.specs.Reached.{capacity}
 use Rattle.checking.specs.Checking.{rewriting-refusal, check-refusal, check-outcome}
-use Rattle.checking.proofs.Judging.{rewriting-accepted}
+use Rattle.checking.proofs.Accepting.{rewriting-accepted}
 use borrow.Author.Needs.{needs}
 use Rattle.checking.proofs.check_rewriting.Statement.{statement}
 use Rattle.checking.proofs.check_rewriting.Tie as tie
@@ -79,7 +79,7 @@ check-accepted-requires : tie.Need-check-accepted-requires
 check-accepted-requires c κs =
     let r = rewriting-accepted _ _ _ _ _ (accepted-rest (c .before .before)) in
     let l = limit (c .before .before .before .before .before) in
-    (accepted (c .before .before .before .before .before .before .before), l, rw l (r .0), r .1)
+    (accepted (c .before .before .before .before .before .before .before), l, rw l (r .0), r .1, r .2)
 
 same-length : tie.Need-same-length
 same-length c = search needs

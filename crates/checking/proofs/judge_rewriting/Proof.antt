@@ -1,10 +1,9 @@
 -- `judge_rewriting` meets its contract: each test in turn is the first refusal that may come.
 use mathlib.Core.Path.{_≡_, refl, sym, _∙_}
 use mathlib.Core.Option.{none, some}
-use borrow.Author.Tests.{lt-ltb, le-ltb, eq-eqb, ne-eqb}
+use borrow.Author.Tests.{lt-ltb, le-ltb}
 use Rattle.refusals.proofs.Judging.{accepted-none, refused-some}
 use Rattle.plans.specs.Judging.{words-refusal}
-use Rattle.rewritings.proofs.Cutting.{whole-by-three}
 use Rattle.checking.specs.Checking.{rewriting-refusal}
 use borrow.Author.Needs.{needs}
 use Rattle.checking.proofs.judge_rewriting.Statement.{statement}
@@ -36,16 +35,12 @@ returns-2 : tie.Need-returns-2
 unfolding rewriting-refusal
 returns-2 c = rw (claimed (c .before), lt-ltb _ _ (c .if1 .taken)) refl
 
+judge-records-requires : tie.Need-judge-records-requires
+judge-records-requires c κs = search needs
+
 returns-3 : tie.Need-returns-3
 unfolding rewriting-refusal
-returns-3 c = rw (claimed (c .before .before), le-ltb _ _ (c .before .if1 .left), whole-by-three _, ne-eqb _ _ (c .if2 .taken)) refl
-
-judge-laws-requires : tie.Need-judge-laws-requires
-judge-laws-requires c κs = search needs
-
-returns-4 : tie.Need-returns-4
-unfolding rewriting-refusal
-returns-4 c = rw (claimed (c .before .before .before), le-ltb _ _ (c .before .before .if1 .left), whole-by-three _, eq-eqb _ _ (c .before .if2 .left), c .judge-laws .ensures) refl
+returns-3 c = rw (claimed (c .before .before), le-ltb _ _ (c .before .if1 .left), c .judge-records .ensures) refl
 
 pub judge-rewriting-spec : {M : Type 1} → statement M
 judge-rewriting-spec =
@@ -56,6 +51,5 @@ judge-rewriting-spec =
     returns
     enum-told-2
     returns-2
-    returns-3
-    judge-laws-requires
-    returns-4)
+    judge-records-requires
+    returns-3)

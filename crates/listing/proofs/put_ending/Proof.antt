@@ -4,6 +4,7 @@ use mathlib.Core.Path.{sym}
 use Prim.Native.Nat.{_+_, _*_, _≤_}
 use lib.ListN.{length, take}
 use lib.Seq.{length-take-le}
+use Rattle.rewritings.specs.Moves.{moves-of}
 use Rattle.demands.specs.Claims.{own-rewriting}
 use Rattle.listing.proofs.Ending.{wrote-ending, part-short}
 use native.Mathlib.Omega.{arith}
@@ -59,7 +60,7 @@ returns c =
     let p = w .before .before .before .before .before .before .before .before in
     let s = w .before .before .before .before .before .before .before .before .before .before .before .before .before .before in (
       rw (← f .before .before .before .actions-of .ensures, ← p .reached .ensures)
-          (wrote-ending (f .before .before .before .actions-of .result) (s .args .number) (s .args .steps) (f .before .before .count-orders .result) (p .reached .result .now) (take (3 * (s .args .steps)) (s .args .list .now))
+          (wrote-ending (f .before .before .before .actions-of .result) (s .args .number) (s .args .steps) (f .before .before .count-orders .result) (p .reached .result .now) (moves-of (take (3 * (s .args .steps)) (s .args .list .now)))
           (f .before .before .count-orders .ensures) (f .put-first .ensures .0) (w .put-words .ensures .0) (c .before .before .put-steps .ensures .0)),
       omega (arith, few p, after w, c .before .before .put-steps .ensures .1, length-take-le (3 * (s .args .steps)) (s .args .list .now) (s .pre .3), s .pre),
     )

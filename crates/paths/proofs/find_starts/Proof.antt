@@ -5,14 +5,14 @@ use Rattle.paths.proofs.find_starts.Statement.{statement}
 use Rattle.paths.proofs.find_starts.Tie as tie
 use Prim.Native.Nat.{_-_, _≤_}
 use native.Mathlib.Numerals.{add-one}
-use mathlib.Core.Path.{_≡_}
+use mathlib.Core.Path.{_≡_, refl}
 use lib.ListN.{length, length-set}
 use Rattle.areas.specs.Area.{most-words}
 use Rattle.plans.proofs.Accepted.{accepted-length}
 use Rattle.paths.proofs.Starting.{First, operands-there, first-more}
 
 abbrev Inv-loop : tie.InvT-loop
-Inv-loop n plan starts₀ i₀ starts i = (length starts ≡ most-words) × (i ≤ length plan) × First n plan starts i
+Inv-loop n plan starts₀ i₀ starts i = (length starts ≡ length starts₀) × (i ≤ length plan) × First n plan starts i
 
 abbrev μ-loop : tie.MeasureT-loop
 μ-loop n plan starts₀ i₀ starts i = length plan - i
@@ -24,7 +24,7 @@ short : (s : tie.Start Inv-loop μ-loop) → length (s .args .plan .now) ≤ mos
 short s = accepted-length _ (s .pre .0) _ (s .pre .1)
 
 loop-holds : tie.Need-loop-holds Inv-loop μ-loop
-loop-holds c = (c .before .before .pre .2, omega arith, λ k h. absurd (omega arith))
+loop-holds c = (refl, omega arith, λ k h. absurd (omega arith))
 
 shared-slice-read-start-of-next : tie.Need-shared-slice-read-start-of-next Inv-loop μ-loop
 shared-slice-read-start-of-next c = search needs
@@ -34,13 +34,15 @@ start-of-next-requires c κs =
     let s = start (c .before) in
     let v = c .before .before .before .loop .inv in
     let h = c .before .before .loop-test .taken in
-    ((s .pre .0, omega (arith, short s), v .0), operands-there _ (s .pre .0) (s .args .plan .now) (s .pre .1) _ h _ (v .2))
+    ((s .pre .0, omega (arith, short s), omega (arith, v .0, s .pre .2, h)), operands-there _ (s .pre .0) (s .args .plan .now) (s .pre .1) _ h _ (v .2))
 
 mul-starts : tie.Need-mul-starts Inv-loop μ-loop
 mul-starts c = search needs
 
 slice-write-starts : tie.Need-slice-write-starts Inv-loop μ-loop
-slice-write-starts c = omega (arith, short (start (c .before .before)))
+slice-write-starts c =
+    let k = c .before .before in
+    omega (arith, start k .pre .2, k .before .before .loop .inv .0, k .before .loop-test .taken)
 
 add-i : tie.Need-add-i Inv-loop μ-loop
 add-i c = search needs
@@ -63,7 +65,7 @@ returns : tie.Need-returns Inv-loop μ-loop
 returns c =
     let v = c .before .loop .inv in
     let h = c .loop-test .left in
-    (λ k l. v .2 k (omega arith), v .0)
+    λ k l. v .2 k (omega arith)
 
 pub find-starts-spec : {M : Type 1} → statement M
 find-starts-spec =

@@ -43,7 +43,7 @@ mul-result : tie.Need-mul-result
 mul-result c = search needs
 
 shared-slice-read-result : tie.Need-shared-slice-read-result
-shared-slice-read-result c = search needs
+shared-slice-read-result c = omega (arith, one (c .before))
 
 enum-told-3 : tie.Need-enum-told-3
 enum-told-3 c = search needs
@@ -55,7 +55,7 @@ mul-right : tie.Need-mul-right
 mul-right c = search needs
 
 shared-slice-read-right : tie.Need-shared-slice-read-right
-shared-slice-read-right c = search needs
+shared-slice-read-right c = omega (arith, two (c .before) .0)
 
 cast-right : tie.Need-cast-right
 cast-right c = omega (arith, two (c .before))

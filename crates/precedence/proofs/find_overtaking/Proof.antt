@@ -1,5 +1,6 @@
 -- `precedence::find_overtaking` meets its contract: the starts are found, and the pass does the rest.
 use borrow.Author.Needs.{needs}
+use Rattle.plans.proofs.Accepted.{accepted-length}
 use Rattle.precedence.proofs.find_overtaking.Statement.{statement}
 use Rattle.precedence.proofs.find_overtaking.Tie as tie
 use Rattle.precedence.proofs.Turning.{passed-as}
@@ -8,7 +9,7 @@ slice-aggregate-find-starts : tie.Need-slice-aggregate-find-starts
 slice-aggregate-find-starts c = search needs
 
 find-starts-requires : tie.Need-find-starts-requires
-find-starts-requires c κs = search needs
+find-starts-requires c κs = let p = c .before .before .pre in (p .0, p .1, accepted-length _ (p .0) _ (p .1))
 
 slice-aggregate-pass : tie.Need-slice-aggregate-pass
 slice-aggregate-pass c = search needs

@@ -7,7 +7,7 @@ use mathlib.Core.List.{List, [], _∷_}
 use lib.ListN.{length, set, length-set}
 use Rattle.areas.specs.Area.{overwrite}
 use Rattle.areas.proofs.Area.{overwrite-one, overwrite-two, overwrite-length}
-use Rattle.rewritings.specs.Records.{record-of}
+use Rattle.rewritings.specs.Moves.{record-of}
 use Rattle.recording.proofs.put_record.Statement.{statement}
 use Rattle.recording.proofs.put_record.Tie as tie
 

@@ -2,12 +2,17 @@
 use native.Mathlib.Omega.{arith}
 use borrow.Author.Needs.{needs}
 use mathlib.Core.Path.{_≡_, refl, sym, _∙_, ap}
+use mathlib.Core.Option.{some}
 use lib.ListN.{take}
 use lib.Seq.{length-take-le}
 use Rattle.matching.proofs.Sides.{reaches-zeros}
 use Rattle.areas.specs.declared.StepState.{StepState}
+use Rattle.laws.specs.Step.{step}
+use Rattle.steps.specs.Working.{plan-in, side-here, next-with}
 use Rattle.steps.proofs.Making.{plan-long}
-use Rattle.steps.proofs.Trying.{ready, answer-past, answer-fails, answer-long, answer-done}
+use Rattle.laws.proofs.Stepping.{step-past, step-alike}
+use Rattle.steps.proofs.Answering.{answer-past, answer-fails, answer-long, answer-done}
+use Rattle.steps.proofs.Trying.{ready, step-none, step-some}
 use Rattle.steps.proofs.make_step.Statement.{statement}
 use Rattle.steps.proofs.make_step.Tie as tie
 
@@ -30,18 +35,33 @@ asked c = sought (c .before .before .before .before .before)
 abbrev tried : tie.Else2 → tie.After-law-fits
 tried c = c .before .before .before
 
-abbrev fitted : tie.After-put-in → tie.Else2
+abbrev fitted : tie.After-put-side → tie.Else2
 fitted c = c .before .before .before .before .before .before .before
 
-abbrev done : tie.After-known-told → tie.After-put-in
+abbrev done : tie.After-known-told → tie.After-put-side
 done c = c .before .before .before .before .before .before .before
 
-abbrev long : tie.After-enum-told → tie.After-put-in
+abbrev long : tie.After-enum-told → tie.After-put-side
 long c = c .before .before .before .before .before .before
 
 -- the word sought, from where the right side is put in
-abbrev there : tie.After-put-in → tie.After-seek
+abbrev there : tie.After-put-side → tie.After-seek
 there c = asked (tried (fitted c))
+
+-- what the step gives, where the right side is put in
+made : (c : tie.After-put-side)
+    → step (entry (there c) .args .tables .now) (entry (there c) .args .law) (entry (there c) .args .place)
+    (plan-in (entry (there c) .args .left .now) (entry (there c) .args .right .now) (entry (there c) .args .state))
+    ≡ some
+    (next-with
+    (side-here (entry (there c) .args .tables .now) (entry (there c) .args .law) (there c .seek .last .1 .1 .0) (tried (fitted c) .law-fits .last .1 .1 .1 .1 .1 .0) (tried (fitted c) .law-fits .last .1 .1 .1 .1 .1 .1 .0) (there c .seek .result))
+    (there c .seek .last .1 .1 .0) (there c .seek .last .1 .1 .1 .0) (there c .seek .last .1 .1 .1 .1 .0) (there c .seek .result))
+made c =
+    let d = there c .seek in
+    let k = entry (there c) in
+    let a = k .args in
+    let l = tried (fitted c) .law-fits in
+    step-some (a .tables .now) (a .law) (a .place) (a .left .now) (a .starts .now) (a .right .now) (a .state) (a .n) (k .pre .0 .0) (d .last .1 .1 .0) (d .last .1 .1 .1 .0) (d .last .1 .1 .1 .1 .0) (d .result) (d .ensures .0) (d .ensures .1) (l .last .1 .1 .1 .1 .1 .0) (l .last .1 .1 .1 .1 .1 .1 .0) (l .result) (l .ensures .0) (fitted c .if2 .left)
 
 sub-size : tie.Need-sub-size
 sub-size c = first c .pre .1 .1 .0 .held .rest-in
@@ -54,7 +74,7 @@ returns c =
     let k = start (c .before) in
     let a = k .args in
     let e = plan-long (a .tables .now) (a .left .now) (a .starts .now) (a .right .now) (a .state) (k .pre .1 .1 .0) in
-    answer-past (a .tables .now) (a .law) (a .place) (a .limit) (a .left .now) (a .starts .now) (a .right .now) (a .old .now) (a .state) (k .pre .1 .1 .0) (omega (arith, e, c .if1 .taken))
+    answer-past (a .tables .now) _ (a .limit) (a .left .now) (a .starts .now) (a .right .now) (a .old .now) (a .state) (k .pre .1 .1 .0) (step-past (a .tables .now) (a .law) (a .place) _ (omega (arith, e, c .if1 .taken)))
 
 seek-requires : tie.Need-seek-requires
 seek-requires c κs =
@@ -110,17 +130,17 @@ returns-2 c =
     let k = entry (asked (c .before .before .before)) in
     let a = k .args in
     let l = c .before .before .before .law-fits in
-    answer-fails (a .tables .now) (a .law) (a .place) (a .limit) (a .left .now) (a .starts .now) (a .right .now) (a .old .now) (a .state)
-    (a .n) (k .pre .0 .0) (d .last .1 .1 .0) (d .last .1 .1 .1 .0) (d .last .1 .1 .1 .1 .0) (d .result) (d .ensures .0) (d .ensures .1) (l .last .1 .1 .1 .1 .1 .0) (l .last .1 .1 .1 .1 .1 .1 .0) (l .result) (l .ensures .0) (c .if2 .taken)
+    answer-fails (a .tables .now) _ (a .limit) (a .left .now) (a .starts .now) (a .right .now) (a .old .now) (a .state) (d .last .1 .1 .0) (d .last .1 .1 .1 .0) (d .last .1 .1 .1 .1 .0) (d .result) (d .ensures .0)
+    (step-none (a .tables .now) (a .law) (a .place) (a .left .now) (a .starts .now) (a .right .now) (a .state) (a .n) (k .pre .0 .0) (d .last .1 .1 .0) (d .last .1 .1 .1 .0) (d .last .1 .1 .1 .1 .0) (d .result) (d .ensures .0) (d .ensures .1) (l .last .1 .1 .1 .1 .1 .0) (l .last .1 .1 .1 .1 .1 .1 .0) (l .result) (l .ensures .0) (c .if2 .taken))
 
-slice-aggregate-put-in : tie.Need-slice-aggregate-put-in
-slice-aggregate-put-in c = search needs
+slice-aggregate-put-side : tie.Need-slice-aggregate-put-side
+slice-aggregate-put-side c = search needs
 
-slice-aggregate-put-in-2 : tie.Need-slice-aggregate-put-in-2
-slice-aggregate-put-in-2 c = search needs
+slice-aggregate-put-side-2 : tie.Need-slice-aggregate-put-side-2
+slice-aggregate-put-side-2 c = search needs
 
-put-in-requires : tie.Need-put-in-requires
-put-in-requires c κs =
+put-side-requires : tie.Need-put-side-requires
+put-side-requires c κs =
     let l = tried (c .before .before .before .before .before .before) in
     let d = asked l .seek in
     let k = entry (asked l) in
@@ -143,22 +163,21 @@ same-length-5 : tie.Need-same-length-5
 same-length-5 c = there (done c) .seek .kept .1 .1 .1 .0
 
 same-length-6 : tie.Need-same-length-6
-same-length-6 c = done c .put-in .kept .1 .1 .1 .1 .0 ∙ there (done c) .seek .kept .1 .1 .1 .1 .0
+same-length-6 c = done c .put-side .kept .1 .1 .1 .1 .0 ∙ there (done c) .seek .kept .1 .1 .1 .1 .0
 
 same-length-7 : tie.Need-same-length-7
-same-length-7 c = done c .put-in .kept .1 .1 .1 .1 .1 .0
+same-length-7 c = done c .put-side .kept .1 .1 .1 .1 .1 .0
 
 returns-3 : tie.Need-returns-3
 returns-3 c =
     let d = there (done c) .seek in
     let k = entry (there (done c)) in
     let a = k .args in
-    let l = tried (fitted (done c)) .law-fits in
-    let p = done c .put-in in
-    let fitting = fitted (done c) .if2 .left in
-    answer-done (a .tables .now) (a .law) (a .place) (a .limit) (a .left .now) (a .starts .now) (a .right .now) (a .old .now) (a .state)
-    (a .n) (k .pre .0 .0) (d .last .1 .1 .0) (d .last .1 .1 .1 .0) (d .last .1 .1 .1 .1 .0) (d .result) (d .ensures .0) (d .ensures .1)
-    (l .last .1 .1 .1 .1 .1 .0) (l .last .1 .1 .1 .1 .1 .1 .0) (l .result) (l .ensures .0) fitting (p .last .1 .1 .1 .1 .0) (p .last .1 .1 .1 .1 .1 .0) (p .result) _ (c .before .next .given .1) (p .ensures) (k .pre .0 .1) (k .pre .1 .0 .0) (k .pre .1 .1 .1)
+    let p = done c .put-side in
+    let e = made (done c) in
+    answer-done (a .tables .now) _ (a .limit) (a .left .now) (a .starts .now) (a .right .now) (a .old .now) (a .state) (d .last .1 .1 .0) (d .last .1 .1 .1 .0) (d .last .1 .1 .1 .1 .0) (d .result) (d .ensures .0)
+    _ e (p .last .1 .1 .1 .1 .0) (p .last .1 .1 .1 .1 .1 .0) (p .result) (p .ensures) _ (c .before .next .given .1) (omega (arith, d .ensures .1)) (k .pre .1 .0 .0) (k .pre .1 .1 .1)
+    (step-alike (a .tables .now) (k .pre .0 .1) (a .law) (a .place) _ _ (k .pre .1 .1 .0 .accepted) e .1)
 
 same-length-8 : tie.Need-same-length-8
 same-length-8 c = there (long c) .seek .kept .1 .1 .0
@@ -167,22 +186,19 @@ same-length-9 : tie.Need-same-length-9
 same-length-9 c = there (long c) .seek .kept .1 .1 .1 .0
 
 same-length-10 : tie.Need-same-length-10
-same-length-10 c = long c .put-in .kept .1 .1 .1 .1 .0 ∙ there (long c) .seek .kept .1 .1 .1 .1 .0
+same-length-10 c = long c .put-side .kept .1 .1 .1 .1 .0 ∙ there (long c) .seek .kept .1 .1 .1 .1 .0
 
 same-length-11 : tie.Need-same-length-11
-same-length-11 c = long c .put-in .kept .1 .1 .1 .1 .1 .0
+same-length-11 c = long c .put-side .kept .1 .1 .1 .1 .1 .0
 
 returns-4 : tie.Need-returns-4
 returns-4 c =
     let d = there (long c) .seek in
     let k = entry (there (long c)) in
     let a = k .args in
-    let l = tried (fitted (long c)) .law-fits in
-    let p = long c .put-in in
-    let fitting = fitted (long c) .if2 .left in
-    answer-long (a .tables .now) (a .law) (a .place) (a .limit) (a .left .now) (a .starts .now) (a .right .now) (a .old .now) (a .state)
-    (a .n) (k .pre .0 .0) (d .last .1 .1 .0) (d .last .1 .1 .1 .0) (d .last .1 .1 .1 .1 .0) (d .result) (d .ensures .0) (d .ensures .1)
-    (l .last .1 .1 .1 .1 .1 .0) (l .last .1 .1 .1 .1 .1 .1 .0) (l .result) (l .ensures .0) fitting (p .last .1 .1 .1 .1 .0) (p .last .1 .1 .1 .1 .1 .0) (p .result) (c .enum-told .given .1) (p .ensures)
+    let p = long c .put-side in
+    answer-long (a .tables .now) _ (a .limit) (a .left .now) (a .starts .now) (a .right .now) (a .old .now) (a .state) (d .last .1 .1 .0) (d .last .1 .1 .1 .0) (d .last .1 .1 .1 .1 .0) (d .result) (d .ensures .0)
+    _ (made (long c)) (p .last .1 .1 .1 .1 .0) (p .last .1 .1 .1 .1 .1 .0) (p .result) (p .ensures) (c .enum-told .given .1)
 
 pub make-step-spec : {M : Type 1} → statement M
 make-step-spec =
@@ -203,9 +219,9 @@ make-step-spec =
     same-length-2
     same-length-3
     returns-2
-    slice-aggregate-put-in
-    slice-aggregate-put-in-2
-    put-in-requires
+    slice-aggregate-put-side
+    slice-aggregate-put-side-2
+    put-side-requires
     enum-known-next
     enum-told
     same-length-4

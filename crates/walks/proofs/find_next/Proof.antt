@@ -43,7 +43,7 @@ slice-aggregate-find-starts : tie.Need-slice-aggregate-find-starts
 slice-aggregate-find-starts c = search needs
 
 find-starts-requires : tie.Need-find-starts-requires
-find-starts-requires c κs = search needs
+find-starts-requires c κs = let s = c .before .before .before .before in (s .pre .0 .few, s .pre .0 .accepted, short s)
 
 slice-aggregate-copy-in : tie.Need-slice-aggregate-copy-in
 slice-aggregate-copy-in c = search needs
@@ -67,12 +67,12 @@ pass-requires : tie.Need-pass-requires
 pass-requires c κs =
     let k = c .before .before .before .before .before in
     let s = begun k in
-    let f = copying k .before .before .before .find-starts .ensures in
+    let f = copying k .before .before .before .find-starts in
     record {
       few = s .pre .0 .few;
       accepted = s .pre .0 .accepted;
-      starts-right = f .0;
-      starts-long = f .1;
+      starts-right = f .ensures;
+      starts-long = f .kept .1 .1 .0;
       left-long = ap length (held (copying k)) ∙ s .pre .0 .fits;
       next-long = cleared k;
     }

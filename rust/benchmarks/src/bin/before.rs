@@ -6,8 +6,8 @@ use before::BEFORE;
 use benchmarks::contenders::{Contender, PROVED};
 use benchmarks::measuring::{cell, least_times, mean};
 use benchmarks::workloads::{
-    counts, growing_sums, judgements, merges_in_growing_areas, merges_of_longer_chains,
-    precedences, sizes, station_files, texts, walks, Places, Replay, Workload, REPLAYED,
+    counts, exchanges, growing_sums, judgements, lists, merges_in_growing_areas,
+    merges_of_longer_chains, precedences, station_files, texts, walks, Workload,
 };
 
 fn main() {
@@ -133,18 +133,20 @@ fn unfoldings() {
     table.end();
 }
 
+/// Steps from left to right alone: an earlier library may refuse others.
 fn replays() {
     let mut table = Table::begin("checking | words | steps", ["call"]);
-    for (name, places, most) in [
-        ("near", Places::Near, REPLAYED.0),
-        ("far", Places::Far, REPLAYED.1),
-    ] {
-        for words in sizes() {
-            let mut replay = Replay::new(words, places, most);
-            let (_, steps, size) = replay.run(BEFORE);
-            let names = format!("{name} | {size} | {steps}");
-            table.row(&names, [measure(&names, &mut replay, steps)]);
-        }
+    for (name, mut replay) in exchanges() {
+        let (_, steps, size) = replay.run(BEFORE);
+        let names = format!("{name} | {size} | {steps}");
+        table.row(&names, [measure(&names, &mut replay, steps)]);
+    }
+    table.end();
+    let mut table = Table::begin("checking the list of | areas | steps", ["call"]);
+    for (names, [mut own, _]) in lists() {
+        let (_, steps, _) = own.run(BEFORE);
+        let names = format!("{names} | {steps}");
+        table.row(&names, [measure(&names, &mut own, steps)]);
     }
     table.end();
 }

@@ -8,8 +8,8 @@
 use aberulwy::{raw, LONGEST_LISTING};
 use benchmarks::contenders::{Contender, PROVED};
 use benchmarks::workloads::{
-    deep_texts, forms, long_sum, precedences, stopped_merges, walks, Places, Replay, Workload,
-    MERGES, STOPPED_CHAINS,
+    deep_texts, exchanges, exchanges_back, forms, long_sum, precedences, stopped_merges, walks,
+    Workload, MERGES, STOPPED_CHAINS,
 };
 use reference::plans::LONGEST_PLAN;
 use reference::stations::{station_file, BLOCK, MOST_BLOCKS};
@@ -104,9 +104,12 @@ fn prepared(call: &str) -> Prepared {
             let mut unfolding = stopped_merges(STOPPED_CHAINS[1]);
             Box::new(move || unfolding.run(proved).0)
         }
+        // Plans of all lengths, with steps in both directions, near and far, and with left sides of
+        // all lengths.
         "check_rewriting" => {
-            let mut replay = Replay::new(LONGEST_PLAN, Places::Far, 400);
-            Box::new(move || replay.run(proved).0)
+            let mut replays = exchanges();
+            replays.extend(exchanges_back());
+            all(replays, proved)
         }
         "unfold_checked" => {
             let unfolding = stopped_merges(STOPPED_CHAINS[1]);

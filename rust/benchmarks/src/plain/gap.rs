@@ -2,8 +2,8 @@
 //! between.
 
 use super::areas::{leave_in, Cut};
-use super::words::{Piece, Span, Words};
-use reference::plans::{operands, LONGEST_PLAN};
+use super::words::{put_starts, Piece, Span, Words};
+use reference::plans::LONGEST_PLAN;
 
 /// A plan with a gap at the last word read, and what the last step changed.
 pub struct Gap {
@@ -61,17 +61,17 @@ impl Gap {
         }
     }
 
+    /// The words of the subplan at the last word read.
+    pub fn subplan(&self) -> &[u8] {
+        let Span { from, to } = self.words().last();
+        &self.left[from..to]
+    }
+
     /// Reads so many words more.
     fn forward(&mut self, count: usize) {
         let (end, rest) = (self.read + count, self.rest + count);
         self.left[self.read..end].copy_from_slice(&self.right[self.rest..rest]);
-        for read in self.read..end {
-            self.starts[read] = match operands(self.left[read]) {
-                0 => read as u16,
-                1 => self.starts[read - 1],
-                _ => self.starts[self.starts[read - 1] as usize - 1],
-            };
-        }
+        put_starts(&self.left[..end], &mut self.starts, self.read);
         (self.read, self.rest) = (end, rest);
     }
 
@@ -97,13 +97,10 @@ impl Gap {
         right: impl DoubleEndedIterator<Item = Piece> + Clone,
         room: usize,
     ) -> bool {
-        let Span { from: at, to } = self.words().last();
-        let taken = to - at;
         let put = right.clone().map(|piece| piece.size()).sum();
-        if self.size() - taken + put > room {
+        if !self.take(put, room) {
             return false;
         }
-        self.old[..taken].copy_from_slice(&self.left[at..to]);
         for piece in right.rev() {
             let end = self.rest;
             self.rest -= piece.size();
@@ -114,6 +111,29 @@ impl Gap {
                 }
             }
         }
+        true
+    }
+
+    /// The same with words that are not from this plan.
+    pub fn replace_by(&mut self, words: &[u8], room: usize) -> bool {
+        if !self.take(words.len(), room) {
+            return false;
+        }
+        let end = self.rest;
+        self.rest -= words.len();
+        self.right[self.rest..end].copy_from_slice(words);
+        true
+    }
+
+    /// Takes the subplan at the last word read away for so many words that are put in, unless the
+    /// plan would have more than there is room for.
+    fn take(&mut self, put: usize, room: usize) -> bool {
+        let Span { from: at, to } = self.words().last();
+        let taken = to - at;
+        if self.size() - taken + put > room {
+            return false;
+        }
+        self.old[..taken].copy_from_slice(&self.left[at..to]);
         self.read = at;
         self.cut = Cut { at, taken, put };
         self.steps += 1;

@@ -5,7 +5,7 @@
 //! uses only files before it in its row, and those of the first row:
 //!
 //! - the unfolding and the checker: `areas`
-//! - the checker: `words`, `word_laws`, `gap`, `checking`
+//! - the checker: `words`, `word_laws`, `gap`, `carried`, `steps`, `checking`
 //! - the unfolding: `records`, `graph`, `graph_laws`, `graph_steps`, `unfolding`
 //! - the reader of texts, which uses none of them: `texts`
 //! - what the walks, the counting, the precedence and the forms share, which uses none of them:
@@ -18,6 +18,7 @@
 
 mod areas;
 mod basic;
+mod carried;
 mod checking;
 mod counting;
 mod forms;
@@ -28,6 +29,7 @@ mod graph_steps;
 mod precedence;
 mod records;
 mod stations;
+mod steps;
 mod texts;
 mod unfolding;
 mod walks;

@@ -81,6 +81,8 @@ const RIGHT: [&[Symbol]; 32] = [
 ];
 
 /// What the letters of a law stand for, if it fits at the last word read.
+// Put into both of its users: see `put_starts`.
+#[inline(always)]
 pub fn fit(law: u8, tables: &[u8], words: Words) -> Option<Letters> {
     let last = words.last();
     let sign = words.word(last);

@@ -1,6 +1,6 @@
 //! Words of a plan that are read, with the start of the subplan that ends at each.
 
-use reference::plans::operands;
+use reference::plans::{operands, LONGEST_PLAN};
 
 /// Where a subplan stands.
 #[derive(Clone, Copy, Default)]
@@ -24,6 +24,21 @@ impl Piece {
             Piece::Term(span) => span.to - span.from,
             Piece::Word(_) => 1,
         }
+    }
+}
+
+/// Puts down where the subplan that ends at each word starts, from this word on; those before it
+/// have theirs.
+// Put into both of its users, as the compiler does where there is one: the gap's moves take most of
+// a check where places are far apart.
+#[inline(always)]
+pub fn put_starts(words: &[u8], starts: &mut [u16; LONGEST_PLAN], from: usize) {
+    for read in from..words.len() {
+        starts[read] = match operands(words[read]) {
+            0 => read as u16,
+            1 => starts[read - 1],
+            _ => starts[starts[read - 1] as usize - 1],
+        };
     }
 }
 
