@@ -7,6 +7,8 @@
 // is equality, `×` is "and", and `↔` is "exactly when". `ghost use` brings in the definitions that contracts cite: those of `Rattle.NAME.specs`
 // stand in crates/NAME/specs, and those of this crate are `Rattle.aberulwy.specs`; `declared` holds the enums and structs of the code.
 // `◌≡◌ {A = R} x y` is `x ≡ y` between records of type R.
+#![tactic(auto)]
+
 ghost use Rattle.std.specs.Prelude.{◌≡◌, [], ◌↔◌, length, take};
 ghost use Rattle.refusals.specs.declared.Judgement.TheVariants.{Accepted};
 ghost use Rattle.refusals.specs.Refusal.{judged, report, reported};
@@ -47,7 +49,7 @@ use unfolding::Unfolded;
 use writing::StationWritten;
 
 // Whether a plan is basic, or why it was not judged.
-#[derive(Drop)]
+#[derive(Clone, Copy)]
 pub enum BasicAnswer {
     Yes,
     No,
@@ -55,7 +57,7 @@ pub enum BasicAnswer {
 }
 
 // How many paths of a plan are orders, which finish, and how many are stuck in a dead stop; or why they were not counted.
-#[derive(Drop)]
+#[derive(Clone, Copy)]
 pub enum OrdersAnswer {
     Counted(Counts),
     Refused(Refusal),
@@ -291,14 +293,14 @@ pub fn fix_form(tables: &[u8], plan: &[u8], area: &mut [u8]) -> FormFixed
 }
 
 // The check of an unfolding's own rewriting; nothing is checked where the unfolding was refused.
-#[derive(Drop)]
+#[derive(Clone, Copy)]
 pub enum OwnCheck {
     Checked(Checked),
     NotChecked,
 }
 
 // The answers of an unfolding and of the check of its own rewriting.
-#[derive(Drop)]
+#[derive(Clone, Copy)]
 pub struct BothAnswers {
     pub unfolded: Unfolded,
     pub own: OwnCheck,

@@ -1,6 +1,8 @@
 // The public calls for C and Rust: numbers and byte slices only. Each answers a number of docs/NUMBERS.md and sets every out number (`finished` of a
 // walk is not one: it is lent, and a refusal leaves it); the two that only hand bytes over, `aberulwy_reached` and `aberulwy_list_station`, answer 0, or 1
 // where the area is too short. `whole` says everything that a call answers, sets and leaves; further clauses say what is claimed of it.
+#![tactic(auto)]
+
 ghost use Rattle.std.specs.Prelude.{◌≡◌, ◌∷◌, [], ◌↔◌, ◌≤◌, length};
 ghost use Rattle.refusals.specs.Refusal.{printed, reported};
 ghost use Rattle.areas.specs.Reached.{even?, reached_part};

@@ -1,5 +1,7 @@
 // Lent areas: words copied into them, and zeros behind; how many words a plan may have in them; and the plan reached stored in them with the
 // plan before it.
+#![tactic(auto)]
+
 ghost use Rattle.std.specs.Prelude.{◌≡◌, ◌+◌, ◌≤◌, ◌<◌, min, ◌∷◌, [], ◌++◌, length, take};
 ghost use Rattle.areas.specs.Area.{overwrite, Written, padded, most_words};
 ghost use Rattle.areas.specs.Storing.{no_step, stepped, before, Undoable, Storable, Stored};
@@ -66,7 +68,7 @@ pub fn least(a: usize, b: usize) -> usize
 }
 
 // The steps made and whether they are even, and the last step: where its subplan started, how many words it had before and how many after.
-#[derive(Drop)]
+#[derive(Clone, Copy)]
 pub struct StepState {
     pub steps: usize,
     pub even: bool,

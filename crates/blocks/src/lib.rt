@@ -1,4 +1,6 @@
 // One block of a station file: its words and its sum, what it must be, what it holds, and how it is made.
+#![tactic(auto)]
+
 ghost use Rattle.std.specs.Prelude.{◌≡◌, ◌+◌, ◌*◌, ◌<◌, ◌≤◌, ◌↔◌, length, drop, ◌==◌};
 ghost use Rattle.refusals.specs.declared.Judgement.TheVariants.{Accepted};
 ghost use Rattle.refusals.specs.Refusal.{judged};

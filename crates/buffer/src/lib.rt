@@ -1,4 +1,6 @@
 // A plan under work as a gap buffer: loading it and moving through it.
+#![tactic(auto)]
+
 ghost use Rattle.std.specs.Prelude.{◌≡◌, ◌+◌, ◌-◌, ◌≤◌, ◌<◌, length, drop};
 ghost use Rattle.std.proofs.Math.Option.{none};
 ghost use Rattle.plans.specs.Judging.{words_refusal};
@@ -9,7 +11,7 @@ ghost use Rattle.areas.specs.Area.{most_words};
 use areas::{MOST_WORDS, StepState};
 
 // The state between two steps: how many words are read and where in its array the rest begins; and the steps made.
-#[derive(Drop)]
+#[derive(Clone, Copy)]
 pub struct State {
     pub read: usize,
     pub rest: usize,

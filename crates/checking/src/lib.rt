@@ -1,4 +1,6 @@
 // The checker: the replay of anybody's rewriting, with steps of both directions.
+#![tactic(auto)]
+
 ghost use Rattle.std.specs.Prelude.{◌≡◌, cond, ◌+◌, ◌≤◌, ◌<◌, length, take};
 ghost use Rattle.std.proofs.Math.Option.{none};
 ghost use Rattle.refusals.specs.Refusal.{judged};
@@ -22,7 +24,7 @@ use rewritings::Record;
 use steps::Attempt;
 
 // What a check answers: accepted; or turned back by how far it had come (31, 32, 33); or refused by what was handed in.
-#[derive(Drop)]
+#[derive(Clone, Copy)]
 pub enum Checked {
     Accepted {
         steps: usize,
@@ -37,7 +39,7 @@ pub enum Checked {
 }
 
 // How a replay ended: 31 or 32, or 0 where all steps were made.
-#[derive(Drop)]
+#[derive(Clone, Copy)]
 pub struct Last {
     pub number: u8,
     pub state: State,

@@ -10,7 +10,7 @@ const CHOICE: u8 = 64;
 const SEQUENCE: u8 = 65;
 
 // How many summands stand on the stack, and in how many parts.
-#[derive(Drop)]
+#[derive(Clone, Copy)]
 pub struct Stack {
     pub entries: usize,
     pub parts: usize,

@@ -1,4 +1,6 @@
 // The fixed form of a basic plan: judged, its summands gathered word by word, and the form written into an area.
+#![tactic(auto)]
+
 ghost use Rattle.std.specs.Prelude.{◌≡◌, cond, length, ltb};
 ghost use Rattle.refusals.specs.Refusal.{judged};
 ghost use Rattle.areas.specs.Area.{padded};
@@ -18,7 +20,7 @@ const NOT_BASIC: u8 = 70;
 const SHORT_AREA: u8 = 74;
 
 // The form written, with its length; or the refusal.
-#[derive(Drop)]
+#[derive(Clone, Copy)]
 pub enum FormFixed {
     Fixed { size: usize },
     Refused(Refusal),

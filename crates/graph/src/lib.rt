@@ -1,5 +1,7 @@
 // Terms as a graph of nodes: entries, their sizes, and their words written out.
 // An entry below 256 is a word; from 256 on it is a node.
+#![tactic(auto)]
+
 ghost use Rattle.std.specs.Prelude.{◌≡◌, ◌+◌, ◌-◌, ◌≤◌, ◌<◌, length, drop};
 ghost use Rattle.areas.specs.Area.{overwrite};
 ghost use Rattle.plans.specs.Stack.{stacked};

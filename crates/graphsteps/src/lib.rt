@@ -1,5 +1,7 @@
 // The unfolding's steps on a graph of terms. Terms that are read stand on a stack as entries, free of redexes; entries still to read wait at the
 // end of another array. A right side is put in as entries, its letters not written out, so that a step costs the words of its law alone.
+#![tactic(auto)]
+
 ghost use Rattle.std.specs.Prelude.{◌≡◌, ◌+◌, ◌≤◌, ◌<◌, length, set};
 ghost use Rattle.tables.specs.Tables.{actions};
 ghost use Rattle.tables.specs.Lawful.{Lawful};
@@ -13,7 +15,7 @@ use redexes::{Bounds, Put};
 
 // How far the reading has come: entries on the stack, where the entries still to read begin, nodes in use; the words of the stack and of the
 // whole plan.
-#[derive(Drop)]
+#[derive(Clone, Copy)]
 pub struct Reading {
     pub height: usize,
     pub rest: usize,
@@ -66,7 +68,7 @@ impl Reading {
 }
 
 // The last step: where its subplan started, how many words it had and how many came in its place; its sign and the entries of its operands.
-#[derive(Drop)]
+#[derive(Clone, Copy)]
 pub struct Cut {
     pub at: usize,
     pub old: usize,
@@ -77,7 +79,7 @@ pub struct Cut {
 }
 
 // The operands of a sign (the same entry twice for a sign of one), and how many entries are under them.
-#[derive(Drop)]
+#[derive(Clone, Copy)]
 pub struct Operands {
     pub a: u16,
     pub b: u16,
@@ -86,7 +88,7 @@ pub struct Operands {
 
 // What comes of the next entry: it is read; or a step is made there by a law; or the step is not made, for the reason with this number (34, 35
 // or 36); or it would become a node, and none is left.
-#[derive(Drop)]
+#[derive(Clone, Copy)]
 pub enum NextEntry {
     Read(Reading),
     Step(u8, Reading, Cut),

@@ -1,4 +1,6 @@
 // What the program prints for a station file.
+#![tactic(auto)]
+
 ghost use Rattle.std.specs.Prelude.{◌≡◌, ◌*◌, ◌≤◌, length, take};
 ghost use Rattle.tables.specs.Tables.{actions};
 ghost use Rattle.areas.specs.Reached.{even?, reached_part};
@@ -28,7 +30,7 @@ const TABLES: usize = 2305;
 pub const LONGEST: usize = 93000;
 
 // What a listing comes to: so many bytes, all of it; or the area is too short for it.
-#[derive(Drop)]
+#[derive(Clone, Copy)]
 pub enum Listed {
     Whole(usize),
     Short,

@@ -8,7 +8,7 @@ ghost use Rattle.matching.specs.Right.{Reaches};
 use crate::same_words;
 
 // What must hold besides the fit of a left side.
-#[derive(Drop)]
+#[derive(Clone, Copy)]
 pub enum Check {
     Always,
     Same,

@@ -48,7 +48,7 @@ pub const LEFT_AT: [u8; 33] = [
 ];
 
 // Where the next word back is matched, or that a word does not fit.
-#[derive(Drop)]
+#[derive(Clone, Copy)]
 pub enum Moved {
     To(usize),
     Fails,

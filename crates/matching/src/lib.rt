@@ -1,6 +1,8 @@
 // The thirty-two laws in code: whether a law fits at a plan's last word, and its right side written out.
 // A layer for the crates above: its functions ask that the words can be read and that the starts of their subplans are right.
 // Letters are noted in two arrays of seven: x, y, z, a, b and the set of ∂ reach from from[k] up to to[k], and signs write to the seventh.
+#![tactic(auto)]
+
 mod condition;
 mod left;
 mod right;

@@ -1,4 +1,6 @@
 // Paths of trees, and going through a basic plan from its root: where the subplan of each word starts.
+#![tactic(auto)]
+
 ghost use Rattle.std.specs.Prelude.{◌≡◌, ◌≤◌, length};
 ghost use Rattle.std.proofs.Math.Option.{none};
 ghost use Rattle.plans.specs.Judging.{words_refusal};

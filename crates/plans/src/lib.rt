@@ -1,4 +1,6 @@
 // Plans: how their words are read and judged, which plans are basic, and how many paths of a basic plan finish or get stuck.
+#![tactic(auto)]
+
 ghost use Rattle.std.specs.Prelude.{◌≡◌, ◌≤◌, ◌<◌, length};
 ghost use Rattle.refusals.specs.Refusal.{judged};
 ghost use Rattle.plans.specs.Word.{operands_of, takes_two?, word_of};
@@ -23,7 +25,7 @@ const DELTA: u8 = 0;
 const CHOICE: u8 = 64;
 
 // The operators of two operands: choice +, sequence ·, merge ‖, left merge ⌊, communication merge |, unless ◁.
-#[derive(Drop)]
+#[derive(Clone, Copy)]
 pub enum Binary {
     Choice,
     Sequence,
@@ -34,14 +36,14 @@ pub enum Binary {
 }
 
 // The operators of one operand: priority θ, and encapsulation ∂ by a set's number.
-#[derive(Drop)]
+#[derive(Clone, Copy)]
 pub enum Unary {
     Priority,
     Encapsulation(u8),
 }
 
 // What a byte is among the words of plans: an action, an operator of one operand or of two, or no word.
-#[derive(Drop)]
+#[derive(Clone, Copy)]
 pub enum Word {
     Action(u8),
     One(Unary),
@@ -50,14 +52,14 @@ pub enum Word {
 }
 
 // One word more where so many subplans stand: how many stand then, or the number of the refusal.
-#[derive(Drop)]
+#[derive(Clone, Copy)]
 pub enum Turn {
     Depth(usize),
     Stop(u8),
 }
 
 // How many paths of a basic plan are orders, which finish, and how many are stuck, which lead into a dead stop.
-#[derive(Drop)]
+#[derive(Clone, Copy)]
 pub struct Counts {
     pub orders: usize,
     pub stuck: usize,

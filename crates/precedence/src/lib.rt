@@ -1,4 +1,6 @@
 // Precedence: whether on every path of a basic plan one action stands before another.
+#![tactic(auto)]
+
 ghost use Rattle.std.specs.Prelude.{◌≡◌, ◌≤◌};
 ghost use Rattle.std.proofs.Math.Option.{none};
 ghost use Rattle.refusals.specs.Refusal.{judged};
@@ -18,7 +20,7 @@ const NOT_BASIC: u8 = 70;
 const NOT_A_PAIR: u8 = 73;
 
 // Whether on every path each appearance of the second action has the first before it; or the least place of one that has not; or why it was not judged.
-#[derive(Drop)]
+#[derive(Clone, Copy)]
 pub enum Precedence {
     Yes,
     No(usize),

@@ -1,4 +1,6 @@
 // Steps made on a graph of terms one after another, each recorded in the list, until the run ends or no node is left.
+#![tactic(auto)]
+
 ghost use Rattle.std.specs.Prelude.{◌≡◌, ◌+◌, ◌≤◌, ◌<◌, length};
 ghost use Rattle.areas.specs.Area.{overwrite, most_words};
 ghost use Rattle.tables.specs.Tables.{actions};
@@ -11,7 +13,7 @@ use areas::{MOST_WORDS, StepState};
 use graphsteps::{Cut, NextEntry, Reading};
 
 // How the steps on a graph end: with the run, by its number (0 where no law fits any more, or 34 to 36), or because no node is left.
-#[derive(Drop)]
+#[derive(Clone, Copy)]
 pub enum Ending {
     Run(u8),
     NoNode,
@@ -19,7 +21,7 @@ pub enum Ending {
 
 // How far the steps on a graph have come, the last of them and the step state after it, the steps still allowed, how much of the list is used,
 // and how the steps end.
-#[derive(Drop)]
+#[derive(Clone, Copy)]
 pub struct StepsMade {
     pub reading: Reading,
     pub cut: Cut,

@@ -1,5 +1,7 @@
 // The laws at the root of a term in a graph: the lowest of laws 5 to 32 that fits there, told by what the operands are, and its right side as
 // entries.
+#![tactic(auto)]
+
 mod root;
 
 ghost use Rattle.std.specs.Prelude.{◌≡◌, ◌≤◌, ◌<◌, length, take};
@@ -10,7 +12,7 @@ ghost use Rattle.laws.specs.Laws.{highest_law, first_choice};
 ghost use Rattle.redexes.specs.Slots.{RootTerm, ChosenRoot, slots_of, side_entries, entries_size, SizesReach, PutReady, PutBefore};
 
 // The law that fits, 0 if none does, and what its letters stand for: the entries of x, y and z, the actions a and b, and ∂'s word.
-#[derive(Drop)]
+#[derive(Clone, Copy)]
 pub struct Redex {
     pub law: u8,
     pub x: u16,
@@ -22,14 +24,14 @@ pub struct Redex {
 }
 
 // A right side put before the entries still to read: where it begins, and how many words it is written as; or it would be too long.
-#[derive(Drop)]
+#[derive(Clone, Copy)]
 pub enum Put {
     At(usize, usize),
     Long,
 }
 
 // Where a right side is put: before place `rest`, if it is at most `most` words.
-#[derive(Drop)]
+#[derive(Clone, Copy)]
 pub struct Bounds {
     pub rest: usize,
     pub most: usize,

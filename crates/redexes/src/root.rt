@@ -11,7 +11,7 @@ use super::Redex;
 use graph::FIRST_NODE;
 
 // An operand: the word at its root and the entries under it. For an action the word is 0, and the action stands for the entries.
-#[derive(Drop)]
+#[derive(Clone, Copy)]
 pub struct Operand {
     pub sign: u8,
     pub first: u16,

@@ -1,10 +1,12 @@
 // Refusals as document 01 numbers them: a number, and the place that it names.
+#![tactic(auto)]
+
 ghost use Rattle.std.specs.Prelude.{◌≡◌};
 ghost use Rattle.refusals.specs.declared.Place.TheVariants.{Nowhere};
 ghost use Rattle.refusals.specs.Refusal.{printed, judged, refuse};
 
 // Where a refusal points: a byte's index, a triple of actions or a step's index, or nowhere.
-#[derive(Drop)]
+#[derive(Clone, Copy)]
 pub enum Place {
     Nowhere,
     Byte(usize),
@@ -12,14 +14,14 @@ pub enum Place {
     Step(usize),
 }
 
-#[derive(Drop)]
+#[derive(Clone, Copy)]
 pub struct Refusal {
     pub number: u8,
     pub place: Place,
 }
 
 // The answer of a call that only judges what it is handed.
-#[derive(Drop)]
+#[derive(Clone, Copy)]
 pub enum Judgement {
     Accepted,
     Refused(Refusal),

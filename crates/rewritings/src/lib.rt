@@ -1,11 +1,13 @@
 // A rewriting with steps of both directions, read record by record.
+#![tactic(auto)]
+
 ghost use Rattle.std.specs.Prelude.{◌≡◌, ◌+◌, ◌≤◌, length, drop};
 ghost use Rattle.rewritings.specs.Records.{first_backward};
 ghost use Rattle.rewritings.specs.Reading.{read_first, record_at, after_record, gone_on};
 
 // What stands at a position: a step, by law, place and the position after it; a step backwards, by law, place, the position of its left side
 // and the position after that; or the end.
-#[derive(Drop)]
+#[derive(Clone, Copy)]
 pub enum Record {
     Step(u8, usize, usize),
     Back(u8, usize, usize, usize),
@@ -54,7 +56,7 @@ pub fn step_at(rewriting: &[u8], at: usize) -> Record
 }
 
 // "A reader goes through a rewriting": the lent rewriting, and a position in it.
-#[derive(Drop)]
+#[derive(Clone, Copy)]
 pub struct Reader<'a> {
     pub rewriting: &'a [u8],
     pub at: usize,
@@ -79,7 +81,7 @@ fn position_after(read: Record, at: usize) -> usize
 }
 
 // What a reader read, and the reader behind it.
-#[derive(Drop)]
+#[derive(Clone, Copy)]
 pub struct Moved<'a> {
     pub read: Record,
     pub reader: Reader<'a>,

@@ -1,5 +1,7 @@
 // A round of the unfolding: the plan is loaded into a graph of terms, steps are made there, and the plan reached is written out again. A round
 // ends with the run, or where no node is left; then another follows.
+#![tactic(auto)]
+
 ghost use Rattle.std.specs.Prelude.{◌≡◌, ◌+◌, ◌≤◌, ◌<◌, length};
 ghost use Rattle.areas.specs.Area.{most_words};
 ghost use Rattle.tables.specs.Tables.{actions};
@@ -20,7 +22,7 @@ const FEW_NODES: usize = 4096;
 
 // A round: where the plan reached begins in the array of its words, the step state, the steps still allowed, how much of the list is used, and
 // how the round ended.
-#[derive(Drop)]
+#[derive(Clone, Copy)]
 pub struct Round {
     pub front: usize,
     pub state: StepState,

@@ -1,4 +1,6 @@
 // Station files: how they are judged and read.
+#![tactic(auto)]
+
 ghost use Rattle.std.specs.Prelude.{◌≡◌};
 ghost use Rattle.stations.specs.File.{StationOutcome, station_outcome};
 
@@ -7,7 +9,7 @@ use refusals::{Judgement, Refusal};
 mod file;
 
 // A file read, with the length of its plan; or the refusal.
-#[derive(Drop)]
+#[derive(Clone, Copy)]
 pub enum StationRead {
     Read { size: usize },
     Refused(Refusal),

@@ -1,4 +1,6 @@
 // Steps on a plan under work, from left to right and from right to left: words put in place of a subplan, and a step made at a place.
+#![tactic(auto)]
+
 ghost use Rattle.std.specs.Prelude.{◌≡◌, ◌+◌, ◌*◌, ◌≤◌, ◌<◌, length, take};
 ghost use Rattle.std.proofs.Math.Option.{none};
 ghost use Rattle.tables.specs.Tables.{actions};
@@ -15,14 +17,14 @@ use areas::MOST_WORDS;
 use buffer::State;
 
 // A subplan replaced by other words: the state after the step, or that the next plan would be too long.
-#[derive(Drop)]
+#[derive(Clone, Copy)]
 pub enum Replaced {
     Step(State),
     TooLong,
 }
 
 // One step of a rewriting: made; or the law does not fit at the place; or the next plan would be too long. With the state then.
-#[derive(Drop)]
+#[derive(Clone, Copy)]
 pub enum Attempt {
     Done(State),
     Fails(State),

@@ -1,4 +1,6 @@
 // Tables: how the 2,305 bytes are read and judged.
+#![tactic(auto)]
+
 ghost use Rattle.std.specs.Prelude.{◌≡◌, ◌||◌, ◌↔◌, ◌≤◌, get_or, ltb};
 ghost use Rattle.refusals.specs.declared.Judgement.TheVariants.{Accepted};
 ghost use Rattle.refusals.specs.Refusal.{judged};
@@ -30,7 +32,7 @@ const ROW: u8 = 32;
 const SET_COUNT: u8 = 8;
 
 // What is asked of each entry of a part: refusal 3's condition, by the part; C3 and C1, of refusals 4 and 5.
-#[derive(Drop)]
+#[derive(Clone, Copy)]
 enum EntryRule {
     Communication,
     Priority,
@@ -40,14 +42,14 @@ enum EntryRule {
 }
 
 // What is asked of each triple of actions: C2, of refusal 6; the order's conditions, of refusal 8.
-#[derive(Drop)]
+#[derive(Clone, Copy)]
 enum TripleRule {
     Group,
     Order,
 }
 
 // What a search over triples of actions yields.
-#[derive(Drop)]
+#[derive(Clone, Copy)]
 enum Found {
     At(u8, u8, u8),
     Nothing,

@@ -30,14 +30,14 @@ pub const LESS: u8 = 60;
 pub const BLANK: u8 = 32;
 
 // The value of a digit, or that there is none.
-#[derive(Drop)]
+#[derive(Clone, Copy)]
 pub enum Numeral {
     Value(u8),
     NoNumeral,
 }
 
 // A sign between two sums, or that there is none.
-#[derive(Drop)]
+#[derive(Clone, Copy)]
 pub enum MaybeSign {
     Sign(Binary),
     NoSign,

@@ -1,4 +1,6 @@
 // Texts: reads a plan typed in signs.
+#![tactic(auto)]
+
 ghost use Rattle.std.specs.Prelude.{◌≡◌};
 ghost use Rattle.texts.specs.Text.{TextOutcome, text_outcome};
 
@@ -11,7 +13,7 @@ mod units;
 mod words;
 
 // A text read, with the length of its plan; or the refusal.
-#[derive(Drop)]
+#[derive(Clone, Copy)]
 pub enum TextRead {
     Read { size: usize },
     Refused(Refusal),

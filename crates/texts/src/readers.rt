@@ -7,7 +7,7 @@ use super::{characters, units, words as words_of};
 use grammar::Bracket;
 
 // How far a reader came: the place behind what it read, and how many words there are then; or the fault that stopped it.
-#[derive(Drop)]
+#[derive(Clone, Copy)]
 pub enum Progress {
     Went { at: usize, words: usize },
     Stopped { number: u8, place: usize },

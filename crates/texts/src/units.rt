@@ -22,7 +22,7 @@ const DIGIT: u8 = 9;
 const SET: u8 = 7;
 
 // How a unit begins: with an action, which is all of it; with a bracket; or not at all. `next` is the place behind.
-#[derive(Drop)]
+#[derive(Clone, Copy)]
 pub enum Begun {
     Action { action: u8, next: usize },
     Opened { bracket: Bracket, next: usize },
@@ -30,7 +30,7 @@ pub enum Begun {
 }
 
 // What stands behind the first sum in a bracket: `)`, a sign with its blanks and then another sum, or what cannot stand there, at a place.
-#[derive(Drop)]
+#[derive(Clone, Copy)]
 pub enum Behind {
     Closed,
     Sign(Binary),

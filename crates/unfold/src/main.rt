@@ -1,4 +1,6 @@
 // Reads a station file from standard input and writes its listing to standard output. (01, "Orders, station files, program".)
+#![tactic(auto)]
+
 ghost use Rattle.std.specs.Prelude.{length};
 ghost use Rattle.unfold.specs.Input.{Within};
 
@@ -9,7 +11,7 @@ use listing::Listed;
 const MOST: usize = 19457;
 
 // What standard input gave: so many bytes, or a read failed.
-#[derive(Drop)]
+#[derive(Clone, Copy)]
 pub enum Input {
     Bytes(usize),
     Failed,

@@ -1,4 +1,6 @@
 // The unfolding of a plan: step after step, each at the least place at which one of laws 5 to 32 fits.
+#![tactic(auto)]
+
 ghost use Rattle.std.specs.Prelude.{◌≡◌, [], ◌≤◌, ◌<◌, length, drop};
 ghost use Rattle.std.proofs.Math.Option.{none};
 ghost use Rattle.areas.specs.Area.{padded, most_words};
@@ -18,7 +20,7 @@ use refusals::{Judgement, Place, Refusal};
 
 // What an unfolding answers: finished; or stopped by how far it had come (34, 35, 36); or refused by what was handed in. Steps are those
 // made, and size is the length of the plan reached.
-#[derive(Drop)]
+#[derive(Clone, Copy)]
 pub enum Unfolded {
     Finished {
         steps: usize,
@@ -33,7 +35,7 @@ pub enum Unfolded {
 }
 
 // How a run ended: its number, where the plan reached begins in the array of its words, and the step state.
-#[derive(Drop)]
+#[derive(Clone, Copy)]
 pub struct Last {
     pub number: u8,
     pub front: usize,

@@ -1,4 +1,6 @@
 // Walks: the hub's progress through a basic plan, and one message at a time.
+#![tactic(auto)]
+
 ghost use Rattle.std.specs.Prelude.{◌≡◌, false, ◌||◌, length};
 ghost use Rattle.refusals.specs.Refusal.{judged};
 ghost use Rattle.areas.specs.Area.{most_words};

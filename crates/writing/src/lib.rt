@@ -1,4 +1,6 @@
 // Writing station files: the blocks of accepted tables and an accepted plan, put into an area.
+#![tactic(auto)]
+
 ghost use Rattle.std.specs.Prelude.{◌≡◌, ◌+◌, ◌*◌, ◌≤◌, ◌<◌, length};
 ghost use Rattle.refusals.specs.Refusal.{judged};
 ghost use Rattle.areas.specs.Area.{overwrite, most_words};
@@ -12,7 +14,7 @@ use refusals::{Judgement, Refusal};
 const SHORT_AREA: u8 = 74;
 
 // The file written, with its length; or the refusal.
-#[derive(Drop)]
+#[derive(Clone, Copy)]
 pub enum StationWritten {
     Written { size: usize },
     Refused(Refusal),
