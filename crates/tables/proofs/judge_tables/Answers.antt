@@ -9,22 +9,22 @@ use Rattle.tables.specs.Tables.{Tables}
 use Rattle.tables.specs.Judging.{table_refusal}
 use Rattle.tables.specs.Lawful.{Lawful}
 use Rattle.tables.proofs.Lawful.{answers_lawful}
-use Rattle.tables.proofs.judge_tables.Statement.{statement}
-use Rattle.tables.proofs.judge_tables.Tie as tie
+use Rattle.tables.proofs.judge_tables.Goals as goal
 
 both : (t : Tables) (r : Judgement) → r ≡ judged (table_refusal t) → (r ≡ judged (table_refusal t)) × ((r ≡ Accepted) ↔ Lawful t)
 both t r e = (e, answers_lawful t r e)
 
-judge-content-requires : tie.Need-judge-content-requires
-judge-content-requires c κs = tt
+pub judge_content-requires : goal.judge_content-requires
+judge_content-requires c = tt
 
-returns : tie.Need-returns
+pub returns-then-tables-eq-LENGTH : goal.returns-then-tables-eq-LENGTH
 unfolding table_refusal
-returns c = both _ _ (rw (eq-eqb _ _ c.before.if1.true) c.judge-content.ensures)
+returns-then-tables-eq-LENGTH c =
+    let the_whole = both _ _ (rw (eq-eqb _ _ c.if-tables-eq-LENGTH.true) c.judge_content.ensures.whole) in
+    record { whole = the_whole.0; accepts = the_whole.1 }
 
-returns-2 : tie.Need-returns-2
+pub returns : goal.returns
 unfolding table_refusal
-returns-2 c = both _ _ (rw (ne_eqb _ _ c.if1.false))
-
-pub judge-tables-spec : {M : Type 1} → statement M
-judge-tables-spec = tie.close (tie.spec judge-content-requires returns returns-2)
+returns c =
+    let the_whole = both _ _ (rw (ne_eqb _ _ c.if-tables-eq-LENGTH.false)) in
+    record { whole = the_whole.0; accepts = the_whole.1 }
