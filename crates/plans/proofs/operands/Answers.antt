@@ -4,8 +4,7 @@ use native.Mathlib.Omega.{arith}
 use mathlib.Core.Path.{◌≡◌, refl, sym}
 use Rattle.plans.specs.Word.{operands_of}
 use Rattle.plans.proofs.Words.{under_range, over_range, operands_action, operands_two, operands_set, operands_none}
-use Rattle.plans.proofs.operands.Statement.{statement}
-use Rattle.plans.proofs.operands.Tie as tie
+use Rattle.plans.proofs.operands.Goals as goal
 
 -- the bytes before the signs, between them and behind them
 module _ (w : ℕ) where
@@ -18,27 +17,24 @@ module _ (w : ℕ) where
   behind-signs : 88 ≤ w → operands_of w ≡ 3
   behind-signs h = operands_none w (omega arith) (over_range 64 69 w (omega arith)) (λ e. omega arith) (over_range 80 87 w h)
 
-returns : tie.Need-returns
+pub returns-in-70 : goal.returns-in-70
 unfolding operands_of
-returns c = rw c.match.keys1 refl
+returns-in-70 c = record { whole = rw c.in-70.is refl }
 
-returns-2 : tie.Need-returns-2
-returns-2 c = sym (operands_action _ (omega arith))
+pub returns-in-0-to-31 : goal.returns-in-0-to-31
+returns-in-0-to-31 c = record { whole = sym (operands_action _ (omega arith)) }
 
-returns-3 : tie.Need-returns-3
-returns-3 c = sym (operands_two _ c.before.if2.false (omega arith))
+pub returns-in-64-to-69 : goal.returns-in-64-to-69
+returns-in-64-to-69 c = record { whole = sym (operands_two _ (omega arith) (omega arith)) }
 
-returns-4 : tie.Need-returns-4
-returns-4 c = sym (operands_set _ c.before.if4.false (omega arith))
+pub returns-in-80-to-87 : goal.returns-in-80-to-87
+returns-in-80-to-87 c = record { whole = sym (operands_set _ (omega arith) (omega arith)) }
 
-returns-5 : tie.Need-returns-5
-returns-5 c = sym (before-signs _ (omega arith) (omega arith))
+pub returns-in_default : goal.returns-in_default
+returns-in_default c = record { whole = sym (before-signs _ (omega arith) (omega arith)) }
 
-returns-6 : tie.Need-returns-6
-returns-6 c = sym (between-signs _ (omega (arith, c.before.before.before.before.match.rest.1)) (omega arith))
+pub returns-in_default-2 : goal.returns-in_default-2
+returns-in_default-2 c = record { whole = sym (between-signs _ (omega arith) (omega arith)) }
 
-returns-7 : tie.Need-returns-7
-returns-7 c = sym (behind-signs _ (omega arith))
-
-pub operands-spec : {M : Type 1} → statement M
-operands-spec = tie.close (tie.spec returns returns-2 returns-3 returns-4 returns-5 returns-6 returns-7)
+pub returns-in_default-3 : goal.returns-in_default-3
+returns-in_default-3 c = record { whole = sym (behind-signs _ (omega arith)) }
