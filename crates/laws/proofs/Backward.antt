@@ -2,8 +2,8 @@
 use Prim.Native.Nat.{ℕ, pred, ◌+◌, ◌-◌, ◌≤◌}
 use mathlib.Core.Path.{◌≡◌, refl, ap, sym, ◌∙◌, subst}
 use mathlib.Core.Bool.{Bool, true, false, cond}
-use mathlib.Core.List.{List, [], ◌∷◌}
-use mathlib.Core.Option.{Option, none, some, some-injective}
+use mathlib.Core.List.{List}
+use mathlib.Core.Option.{none, some, some-injective}
 use mathlib.Core.Logic.{◌↔◌}
 use lib.ListN.{length}
 use borrow.Author.Tests.{le-ltb}

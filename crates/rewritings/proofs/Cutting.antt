@@ -1,16 +1,15 @@
 -- The records of a rewriting: cut one after another, at a position as the code reads it; and cut again out of their bytes.
 use Prim.Native.Nat.{ℕ, suc, zero, ◌+◌, ◌-◌, ◌*◌, ◌≤◌, ◌<◌}
 use native.Mathlib.Omega.{arith}
-use mathlib.Core.Path.{◌≡◌, refl, ap, sym, ◌∙◌}
-use mathlib.Core.Bool.{Bool, true, false, cond, ◌&&◌, and-eq-true_iff}
-use mathlib.Core.List.{List, [], ◌∷◌, ◌++◌}
-use lib.ListN.{length, take, drop, length-append}
-use lib.Seq.{take_at, drop_at}
+use mathlib.Core.Path.{◌≡◌, refl, ap, ◌∙◌}
+use mathlib.Core.Bool.{Bool, true, false, cond, and-eq-true_iff}
+use mathlib.Core.List.{List, [], ◌∷◌}
+use lib.ListN.{length, take, drop}
 use lib.Dec.{leb}
 use borrow.Author.Tests.{leb-true, le-leb, lt-leb}
 use Rattle.laws.specs.Laws.{highest_law}
 use Rattle.rewritings.specs.Moves.{Move}
-use Rattle.rewritings.specs.Records.{Recorded, forward, backward, backward?, bytes_of_one, bytes_of_all, First, nothing, cut_short, one_step, first_carried, first_backward, first_with, first_record, Cut, one_more, go_on, cut_from, records_of, whole?}
+use Rattle.rewritings.specs.Records.{Recorded, forward, backward, backward?, First, nothing, cut_short, one_step, first_carried, first_backward, first_with, first_record, one_more, go_on, cut_from}
 
 -- the first bytes of steps backwards
 module _ (k : ℕ) where

@@ -1,19 +1,18 @@
 -- A record as the code reads it at a position, and the records from there on by what was read.
 use Prim.Native.Nat.{ℕ, suc, ◌+◌, ◌-◌, ◌*◌, ◌≤◌, ◌<◌}
 use native.Mathlib.Omega.{arith}
-use mathlib.Core.Path.{◌≡◌, refl, ap, sym, ◌∙◌}
-use mathlib.Core.Bool.{Bool, true, false, cond, ◌&&◌}
+use mathlib.Core.Path.{◌≡◌, refl, ap}
+use mathlib.Core.Bool.{Bool, true, false, cond}
 use mathlib.Core.List.{List, [], ◌∷◌}
 use lib.ListN.{length, get_or, take, drop, length-drop, drop_of_length-le}
 use lib.Seq.{drop-cons, drop-drop}
 use lib.Dec.{leb}
 use borrow.Author.Tests.{le-leb, lt-leb}
 use Rattle.laws.specs.Laws.{highest_law}
-use Rattle.rewritings.specs.declared.Record.{Record}
 use Rattle.rewritings.specs.declared.Record.TheVariants.{Step, Back, End}
 use Rattle.rewritings.specs.Moves.{Move}
 use Rattle.rewritings.specs.Records.{Recorded, forward, backward, backward?, First, nothing, cut_short, one_step, first_carried, first_backward, first_with, first_record, Cut, go_on, cut_from, records_of, whole?}
-use Rattle.rewritings.specs.Reading.{read_step, read_first, record_at}
+use Rattle.rewritings.specs.Reading.{read_first, record_at}
 use Rattle.rewritings.proofs.Cutting.{low_backward, first-within, cut_by}
 
 -- a step backwards, behind its place: its length and the words behind that

@@ -52,6 +52,7 @@ one_cong_to {k} b = deep (only b) (only (rest_sym b))
   where
     only : {a : ℕ} {n m : Rest} → RestTo k n m → Within k (one a n) (one a m)
     only b c l here = matched_to here b
+    only b c l (past x) = elim x [ ]
 
 module _ {k : ℕ} where
   each_into : {f g : ℕ → Rest → Tree} {x y : Tree} → ((a : ℕ) (n m : Rest) → RestTo k n m → Within k (f a n) (g a m)) → Within k x y → Within k (each f x) (each g y)

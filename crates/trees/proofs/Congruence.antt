@@ -5,7 +5,7 @@ use mathlib.Core.Bool.{Bool, true, false, cond, ◌||◌, false≢true}
 use mathlib.Core.Logic.{◌⊎◌, inl, inr}
 use lib.Dec.{eqb}
 use Rattle.trees.specs.Tree.{Tree, stop, branch, Rest, finish, further, Has, here, past}
-use Rattle.trees.specs.Operators.{◌⊙◌, then, beside, together, left_by, communication_by, merge_trees, left_trees, communication_trees, encapsulation_tree, encapsulation_rest, under, unless_tree, priority_remainders, priority_rest, priority_tree}
+use Rattle.trees.specs.Operators.{◌⊙◌, then, beside, together, left_by, communication_by, merge_trees, left_trees, communication_trees, encapsulation_tree, encapsulation_rest, under, unless_tree, priority_remainders, priority_rest, priority_tree, one}
 use Rattle.trees.proofs.Depth.{AlikeTo, shallow, deep, MatchedTo, matched_to, RestTo, finishes, leads, Within, depth_refl, depth_less}
 use Rattle.trees.proofs.Branches.{choice_cong_to, one_cong_to, each_cong_to}
 use Rattle.trees.proofs.Operators.{sequence_each, encapsulation-each, remainders_each, merge-choices}
@@ -40,7 +40,7 @@ left_by_cong_to : (k : ℕ) (f : Tree → Tree → Tree) → Keeps₂ k f → Ke
 unfolding left_by
 left_by_cong_to k f c x x' y y' p q =
     let l = depth_less k y y' q in
-    each_cong_to (λ a n m b. one_cong_to (rest_case (λ n. further (beside f n y)) (λ m. further (beside f m y')) (leads l) (λ n m r. leads (c n m y y' r l)) b)) p
+    each_cong_to {f = λ a n. one a (further (beside f n y))} {g = λ a n. one a (further (beside f n y'))} (λ a n m b. one_cong_to {a = a} (rest_case (λ n. further (beside f n y)) (λ m. further (beside f m y')) (leads l) (λ n m r. leads (c n m y y' r l)) b)) p
 
 module _ (γ : ℕ → ℕ → ℕ) where
   communication_by_cong_to : (k : ℕ) (f : Tree → Tree → Tree) → Keeps₂ k f → Keeps₂ (suc k) (communication_by γ f)
@@ -125,4 +125,4 @@ module _ (lt : ℕ → ℕ → Bool) where
   priority_cong_to zero x x' p = shallow
   priority_cong_to (suc k) x x' p = unless_cong_to (suc k) (priority_remainders lt x) (priority_remainders lt x') x x'
       (rw (remainders_each lt x, remainders_each lt x')
-      (each_cong_to (λ a n m b. one_cong_to (rest_case (priority_rest lt) (priority_rest lt) finishes (λ n m r. leads (priority_cong_to k n m r)) b)) p)) p
+      (each_cong_to {f = λ a n. one a (priority_rest lt n)} {g = λ a n. one a (priority_rest lt n)} (λ a n m b. one_cong_to {a = a} (rest_case (priority_rest lt) (priority_rest lt) finishes (λ n m r. leads (priority_cong_to k n m r)) b)) p)) p

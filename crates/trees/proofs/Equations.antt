@@ -4,7 +4,7 @@ use mathlib.Core.Path.{◌≡◌, refl, ap, ap₂, sym, ◌∙◌}
 use mathlib.Core.Bool.{Bool, true, false, cond, ◌||◌, false≢true}
 use lib.Dec.{eqb}
 use Rattle.trees.specs.Tree.{Tree, stop, branch, Rest, finish, further, Has, Alike}
-use Rattle.trees.specs.Operators.{◌⊕◌, one, each, ◌⊙◌, then, together, merge_trees, left_trees, communication_trees, encapsulation_tree, encapsulation_rest, under, unless_tree, priority_remainders, priority_rest, priority_tree}
+use Rattle.trees.specs.Operators.{◌⊕◌, one, each, ◌⊙◌, then, together, merge_trees, left_trees, communication_trees, encapsulation_tree, encapsulation_rest, under, unless_tree, priority_remainders, priority_rest, priority_tree, beside}
 use Rattle.trees.proofs.Depth.{AlikeTo, shallow, deep, matched_to, Within, rest_refl, within_refl}
 use Rattle.trees.proofs.Branches.{within-left, within-right, choice_within, each_within, has_left, has_right, has-each}
 use Rattle.trees.proofs.Operators.{choice_stop, each_ext, each_choice, each-each, sequence_each, encapsulation-each, remainders_each}
@@ -83,7 +83,7 @@ module _ (γ : ℕ → ℕ → ℕ) where
 
   pub left_choice : (x y z : Tree) → left_trees γ (x ⊕ y) z ≡ left_trees γ x z ⊕ left_trees γ y z
   unfolding left_trees
-  left_choice x y z = each_choice _ x y
+  left_choice x y z = each_choice (λ a n. one a (further (beside (merge_trees γ) n z))) x y
 
   -- communication merge: 10, 15 to 19
   communication_ones : (a b : ℕ) (n m : Rest) → communication_trees γ (one a n) (one b m) ≡ cond (eqb (γ a b) 0) stop (one (γ a b) (together (merge_trees γ) n m))
@@ -184,7 +184,8 @@ module _ (lt : ℕ → ℕ → Bool) where
 
   pub unless_choice_right : (x y z : Tree) → unless_tree lt x (y ⊕ z) ≡ unless_tree lt (unless_tree lt x y) z
   unfolding unless_tree each ◌⊕◌
-  unless_choice_right x y z = each_ext _ _ x (λ a n h. rw (under_choice a y z) (twice (under lt a y) a n)) ∙ sym (each-each _ _ x)
+  unless_choice_right x y z = each_ext _ _ x (λ a n h. rw (under_choice a y z) (twice (under lt a y) a n))
+      ∙ sym (each-each (λ a n. cond (under lt a z) stop (one a n)) (λ a n. cond (under lt a y) stop (one a n)) x)
     where
       twice : (c : Bool) (a : ℕ) (n : Rest) → cond (c || under lt a z) stop (one a n) ≡ each (λ a n. cond (under lt a z) stop (one a n)) (cond c stop (one a n))
       twice true a n = refl
@@ -192,7 +193,10 @@ module _ (lt : ℕ → ℕ → Bool) where
 
   pub unless_sequence : (x y z : Tree) → unless_tree lt (x ⊙ y) z ≡ unless_tree lt x z ⊙ y
   unfolding unless_tree each ◌⊕◌
-  unless_sequence x y z = rw (sequence_each x y, sequence_each (unless_tree lt x z) y) (each-each _ _ x ∙ (each_ext _ _ x (λ a n h. turn (under lt a z) a n) ∙ sym (each-each _ _ x)))
+  unless_sequence x y z = rw (sequence_each x y, sequence_each (unless_tree lt x z) y)
+      (each-each (λ a n. cond (under lt a z) stop (one a n)) (λ a n. one a (further (then n y))) x
+      ∙ (each_ext _ _ x (λ a n h. turn (under lt a z) a n)
+      ∙ sym (each-each (λ a n. one a (further (then n y))) (λ a n. cond (under lt a z) stop (one a n)) x)))
     where
       turn : (c : Bool) (a : ℕ) (n : Rest) → cond c stop (one a (further (then n y))) ⊕ stop ≡ each (λ a n. one a (further (then n y))) (cond c stop (one a n))
       turn true a n = refl
