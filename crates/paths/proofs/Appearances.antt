@@ -314,10 +314,10 @@ module _ {n : ℕ} (few : n ≤ 31) (plan : List ℕ) where
     high : p < s + length (words u)
     through : Through s u p ms
 
-  led_through : {m s p : ℕ} {u y : Term} {h : Target} {ms : List ℕ} → Transition m s u h → Transitions h ms (subplan (suc p) y) → Standing n plan s u → Led s u p (m ∷ ms)
-  led_through {m} i stay k = let f = factor_there i refl k in record { low = f.low; high = f.high; through = rw (f.none_before, f.word) refl }
-  led_through {m} {p = p} {h = subplan r v} i (go j l) k =
-      let d = led_through j l (part_standing few (transition_part i) k) in
+  led_through : {m s p : ℕ} {u y : Term} {h : Target} {ms : List ℕ} → Transitions h ms (subplan (suc p) y) → Transition m s u h → Standing n plan s u → Led s u p (m ∷ ms)
+  led_through {m} stay i k = let f = factor_there i refl k in record { low = f.low; high = f.high; through = rw (f.none_before, f.word) refl }
+  led_through {m} {p = p} {h = subplan r v} (go j l) i k =
+      let d = led_through l j (part_standing few (transition_part i) k) in
       let b = behind-there i p d.low d.high in record { low = b.low; high = b.high; through = rw b.one_more (ap (λ l. m ∷ l) d.through) }
 
 -- of a whole plan
@@ -326,4 +326,4 @@ module _ (n : ℕ) (few : n ≤ 31) (plan : List ℕ) (u : Term) (e : term_of n 
   finishes-before i = finish_through few plan i (standing_whole n plan u e)
 
   pub leads-before : {ms : List ℕ} {p : ℕ} {y : Term} → Transitions (subplan 0 u) ms (subplan (suc p) y) → ms ≡ actions_before 0 u p ++ (get_or plan p 0 ∷ [])
-  leads-before (go i l) = (led_through few plan i l (standing_whole n plan u e)).through
+  leads-before (go i l) = (led_through few plan l i (standing_whole n plan u e)).through

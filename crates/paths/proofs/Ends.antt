@@ -37,17 +37,20 @@ inside (prefix {a = a} {y = y} i) = let h = inside i in (omega arith, omega (ari
 inside (left {x = x} {y = y} i) = let h = inside i in (omega arith, omega (arith, size-bin Choice x y))
 inside (right {x = x} {y = y} i) = let h = inside i in (omega arith, omega (arith, size-bin Choice x y))
 
--- and one at most ends there
+-- and one at most ends there: of two that start and end at equal words
+same_path : {s r p q : ℕ} {u : Term} {ms ks : List ℕ} {e f : Rest} → s ≡ r → p ≡ q → PathTo s u ms e p → PathTo r u ks f q → (ms ≡ ks) × (e ≡ f)
+same_path g h dead_stop dead_stop = (refl, refl)
+same_path g h dead_stop (action l) = absurd (omega arith)
+same_path g h (action l) dead_stop = absurd (omega arith)
+same_path g h (action l) (action m) = (refl, refl)
+same_path g h (prefix {a = a} i) (prefix j) = let r = same_path (ap suc g) h i j in (ap (λ (l : List ℕ). a ∷ l) r.0, r.1)
+same_path g h (left i) (left j) = same_path g h i j
+same_path g h (left i) (right j) = absurd (omega (arith, inside i, inside j))
+same_path g h (right i) (left j) = absurd (omega (arith, inside i, inside j))
+same_path g h (right {x = x} i) (right j) = same_path (ap (λ (n : ℕ). n + length (words x)) g) h i j
+
 pub one_path : {s p : ℕ} {u : Term} {ms ks : List ℕ} {e f : Rest} → PathTo s u ms e p → PathTo s u ks f p → (ms ≡ ks) × (e ≡ f)
-one_path dead_stop dead_stop = (refl, refl)
-one_path dead_stop (action h) = absurd (omega arith)
-one_path (action h) dead_stop = absurd (omega arith)
-one_path (action h) (action i) = (refl, refl)
-one_path (prefix {a = a} i) (prefix j) = let r = one_path i j in (ap (λ (l : List ℕ). a ∷ l) r.0, r.1)
-one_path (left i) (left j) = one_path i j
-one_path (left i) (right j) = absurd (omega (arith, inside i, inside j))
-one_path (right i) (left j) = absurd (omega (arith, inside i, inside j))
-one_path (right i) (right j) = one_path i j
+one_path i j = same_path refl refl i j
 
 -- Paths by the words and messages taken one after another.
 
@@ -96,6 +99,7 @@ finish-path (go {h = subplan r v} i l) = let r = finish-path l in (r.0, onto i r
 
 stuck_path : {s p : ℕ} {u : Term} {ms : List ℕ} → Transitions (subplan s u) ms (subplan p (act 0)) → PathTo s u ms (further stop) p
 stuck_path stay = dead_stop
+stuck_path (go {h = at_finish} i l) = elim l [ ]
 stuck_path (go {h = subplan r v} i l) = onto i (stuck_path l)
 
 -- a basic plan whose tree has no branch is the dead stop

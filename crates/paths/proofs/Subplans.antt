@@ -74,9 +74,11 @@ module _ (t : Tables) where
 
   of_one : {m a s : ℕ} {n : Rest} → 0 < a → Has m n (one a finish) → Comes m s (act a) n
   of_one h here = (at_finish, ends h, refl, tt)
+  of_one h (past x) = elim x [ ]
 
   of_product : {m a s : ℕ} {y : Term} {n : Rest} → Basic y → Has m n (one a (further (tree t y))) → Comes m s (bin Sequence (act a) y) n
   of_product {s = s} {y = y} b here = (subplan (suc s) y, goes, refl, b)
+  of_product b (past x) = elim x [ ]
 
   mutual
     unfolding tree ◌⊙◌
