@@ -76,6 +76,7 @@ has_choice (branch b n r) (past h) = later (has_choice r h)
 
 has_one : {a b : ℕ} {m k : Rest} (P : ℕ → Rest → Type 0) → P b k → Has a m (one b k) → P a m
 has_one P p here = p
+has_one P p (past h) = elim h [ ]
 
 module _ (t : Tables) (n : ℕ) where
   -- the summand that stands for a branch

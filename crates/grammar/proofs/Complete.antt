@@ -15,7 +15,7 @@ use Rattle.plans.specs.declared.Word.{Word}
 use Rattle.plans.specs.declared.Word.TheVariants.{Action, One, Two}
 use Rattle.plans.specs.Term.{Term, act, un, bin, words, push, and_then}
 use Rattle.grammar.specs.Character.{plus, dot, opening, closing, tee, aitch, nought, blank}
-use Rattle.grammar.specs.Grammar.{Decimal, digit, more, Between, merge, left_merge, communication, unless, SumOf, one_product, sum, one_unit, product, action, bracket, priority, encapsulation, pair}
+use Rattle.grammar.specs.Grammar.{Decimal, digit, more, Between, merge, left_merge, communication, unless, SumOf}
 use Rattle.grammar.proofs.Induction.{Ways, every_sum}
 use Rattle.grammar.specs.declared.Bracket.TheVariants.{Plain, OfPriority, OfSet, Second}
 use Rattle.grammar.specs.States.{digit_of, set_of, between_of, Frame, frame, State, unit, digits, done, joined, followed, step, finish}

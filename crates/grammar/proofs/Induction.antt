@@ -6,7 +6,7 @@ use Rattle.plans.specs.declared.Binary.TheVariants.{Choice, Sequence}
 use Rattle.plans.specs.declared.Unary.TheVariants.{Priority, Encapsulation}
 use Rattle.plans.specs.Term.{Term, act, un, bin}
 use Rattle.grammar.specs.Character.{plus, dot, opening, closing, tee, aitch, nought, blank}
-use Rattle.grammar.specs.Grammar.{Decimal, Between, SumOf, one_product, sum, ProductOf, one_unit, product, UnitOf, action, bracket, priority, encapsulation, pair}
+use Rattle.grammar.specs.Grammar.{Decimal, Between, SumOf, ProductOf, UnitOf}
 
 pub record Ways (P Q R : List ℕ → Term → Type 0) : Type 0 where
   pub one_product : (s : List ℕ) (u : Term) → Q s u → P s u

@@ -11,7 +11,6 @@ use lib.Dec.{ltb}
 use borrow.Author.Tests.{ltb-true, ltb-false}
 use Rattle.plans.specs.Term.{Term}
 use Rattle.graph.specs.Graph.{Graph, graph, Holds, leaf, one, two, Root, root_one, root_two, Held, held_none, held_more, Written, as_word, as_term, ToRead, read_none, read_more, ToWrite, write_none, write_more}
-use Rattle.graph.proofs.Terms.{holds_same}
 
 -- the graph with a node of word w and operands a and b at the end
 abbrev pub grown : List ℕ → List ℕ → List ℕ → ℕ → ℕ → ℕ → Graph

@@ -4,8 +4,8 @@
 ghost use Rattle.std.specs.Prelude.{length};
 ghost use Rattle.unfold.specs.Input.{Within};
 
-use libc::{STDERR_FILENO, STDIN_FILENO, STDOUT_FILENO};
 use listing::Listed;
+use std::io;
 
 // One more byte than the longest station file has: 38 blocks of 512.
 const MOST: usize = 19457;
@@ -18,23 +18,22 @@ pub enum Input {
 }
 
 // Reads once into an area: how many bytes came, 0 at the end of the input; or the read failed.
-fn read_some(area: &mut [u8]) -> Input
+fn read_some<R: io::Read>(input: &mut R, area: &mut [u8]) -> Input
     ensures { Within result (length area.new) }
 {
-    let got = libc::read(STDIN_FILENO, &mut *area);
-    if got < 0 {
-        return Input::Failed;
+    match input.read(&mut *area) {
+        Ok(got) => Input::Bytes(got),
+        Err(_) => Input::Failed,
     }
-    Input::Bytes(io::count(got, area))
 }
 
 // Reads until the input ends or the area is full.
-fn read_input(area: &mut [u8]) -> Input
+fn read_input<R: io::Read>(input: &mut R, area: &mut [u8]) -> Input
     ensures { Within result (length area.new) }
 {
     let mut done: usize = 0;
     while done < area.len() {
-        let Input::Bytes(more) = read_some(&mut area[done..]) else {
+        let Input::Bytes(more) = read_some(&mut *input, &mut area[done..]) else {
             return Input::Failed;
         };
         if more == 0 {
@@ -45,20 +44,17 @@ fn read_input(area: &mut [u8]) -> Input
     Input::Bytes(done)
 }
 
-fn main() {
+fn main(rt: HostRuntime) -> io::Result<()> {
     let mut file = [0u8; MOST];
-    let Input::Bytes(size) = read_input(&mut file) else {
-        io::write_all(STDERR_FILENO, b"unfold: standard input cannot be read\n");
-        return;
+    let Input::Bytes(size) = read_input(&mut rt.reader(), &mut file) else {
+        return rt.stderr().write_all(b"unfold: standard input cannot be read\n");
     };
     let mut text = [0u8; listing::LONGEST];
     let Listed::Whole(length) = listing::list_station(&file[..size], &mut text) else {
-        return;
+        return Ok(());
     };
-    if !io::write_all(STDOUT_FILENO, &text[..length]) {
-        io::write_all(
-            STDERR_FILENO,
-            b"unfold: standard output cannot be written\n",
-        );
+    if rt.stdout().write_all(&text[..length]).is_err() {
+        return rt.stderr().write_all(b"unfold: standard output cannot be written\n");
     }
+    Ok(())
 }

@@ -228,6 +228,9 @@ set-one_grows l i k room h = go (eqb k i) refl
     go true e = rw (eqb-true k i e, get_or-set_same l i 1 0 room) (omega arith)
     go false e = rw (get_or-set_other l i k 1 0 (eqb-false k i e)) h
 
+product_target : {m s a : ℕ} {y : Term} {g : Target} → Transition m s (bin Sequence (act a) y) g → g ≡ subplan (suc s) y
+product_target goes = refl
+
 module _ (m s : ℕ) (y : Term) (p : Pass) (q : ℕ) (marked : Marked p.left (place_of s (bin Sequence (act m) y))) (here : place_of (suc s) y ≡ q) (room : q < length p.next) where
   top-product : Top m s Sequence (act m) y p (passed_on q p)
   top-product =
@@ -259,7 +262,7 @@ module _ (m s : ℕ) (y : Term) (p : Pass) (q : ℕ) (marked : Marked p.left (pl
 
       made : (g : Option ℕ) → Goes m p.left s (bin Sequence (act m) y) g
           → Seen (passed_on q p) g ⊎ (Goes m p.left s (act m) g ⊎ Goes m p.left (s + length (words (act m))) y g)
-      made g (r, v, h, whole, j, goes, e) = inl (there g e)
+      made g (r, v, h, whole, j, k, e) = inl (there g (ap target_place (sym (product_target k)) ∙ e))
       made g (r, v, h, first i, j, k, e) = inr (inl (r, v, h, i, j, k, e))
       made g (r, v, h, second i, j, k, e) = inr (inr (r, v, h, i, j, k, e))
 
@@ -268,6 +271,9 @@ product_transition goes = refl
 
 action_transition : {m s a : ℕ} {g : Target} → Transition m s (act a) g → (0 < m) × (a ≡ m)
 action_transition (ends h) = (h, refl)
+
+action_target : {m s a : ℕ} {g : Target} → Transition m s (act a) g → g ≡ at_finish
+action_target (ends h) = refl
 
 -- a marked product with another first factor
 top_other : {m s a : ℕ} {y : Term} (p : Pass) → (a ≡ m → ⊥) → Top m s Sequence (act a) y p p
@@ -296,7 +302,7 @@ covered_ended {m} {s} p above_zero marked = record { low = λ k h. refl; left-le
     at_end g e = subst (Seen (ended p)) e refl
 
     made : (g : Option ℕ) → Goes m p.left s (act m) g → Seen (ended p) g
-    made g (r, v, h, whole, j, ends l, e) = at_end g e
+    made g (r, v, h, whole, j, k, e) = at_end g (ap target_place (sym (action_target k)) ∙ e)
 
 no_transition : {m s a : ℕ} (now : List ℕ) (g : Option ℕ) → (a ≡ m → ⊥) → Goes m now s (act a) g → ⊥
 no_transition now g differ (r, v, h, whole, j, k, e) = differ (action_transition k).1

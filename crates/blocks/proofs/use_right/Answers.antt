@@ -1,6 +1,5 @@
 -- `blocks::use_right` meets its contract: the three tests are those of the definition, in its order.
 use Rattle.std.proofs.Common.{eq-eqb, ne_eqb}
-use borrow.Author.Tests.{not-true, not-false}
 use Rattle.blocks.specs.Block.{kind_of, count_of, filling, use_right}
 use Rattle.blocks.proofs.use_right.Goals as goal
 
@@ -10,12 +9,12 @@ returns-then-word_at-kind_due c = record { whole = rw (← c.word_at.ensures.who
 
 pub returns-then-not-count_right : goal.returns-then-not-count_right
 unfolding use_right kind_of count_of
-returns-then-not-count_right c = record { whole = rw (← c.word_at.ensures.whole, ← c.kind_due.ensures.whole, eq-eqb _ _ c.if-word_at-kind_due.false, ← c.word_at-count.ensures.whole, ← c.count_right.ensures.whole, not-true c.count_right.result c.if-not-count_right.true-raw) }
+returns-then-not-count_right c = record { whole = rw (← c.word_at.ensures.whole, ← c.kind_due.ensures.whole, eq-eqb _ _ c.if-word_at-kind_due.false, ← c.word_at-count.ensures.whole, ← c.count_right.ensures.whole, c.if-not-count_right.true) }
 
 pub returns : goal.returns
 unfolding use_right kind_of count_of filling
 returns c =
     record {
-      whole = rw (← c.word_at.ensures.whole, ← c.kind_due.ensures.whole, eq-eqb _ _ c.if-word_at-kind_due.false, ← c.word_at-count.ensures.whole, ← c.count_right.ensures.whole, not-false c.count_right.result c.if-not-count_right.false-raw)
+      whole = rw (← c.word_at.ensures.whole, ← c.kind_due.ensures.whole, eq-eqb _ _ c.if-word_at-kind_due.false, ← c.word_at-count.ensures.whole, ← c.count_right.ensures.whole, c.if-not-count_right.false)
           c.zero_past.ensures.whole;
     }

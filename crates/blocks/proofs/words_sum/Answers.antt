@@ -1,5 +1,5 @@
 -- `blocks::words_sum` meets its contract. The invariant: the sum so far and the words left have the whole sum, modulo 65,536.
-use Rattle.std.proofs.Common.{ℕ, ◌+◌, ◌-◌, ◌%◌, ap, ◌∙◌, arith}
+use Rattle.std.proofs.Common.{ℕ, ◌+◌, ◌%◌, ap, ◌∙◌, arith}
 use Rattle.blocks.proofs.Reading.{sum-turn, sum-end}
 use Rattle.blocks.proofs.words_sum.Goals as goal
 

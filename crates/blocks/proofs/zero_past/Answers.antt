@@ -1,5 +1,5 @@
 -- `blocks::zero_past` meets its contract. The invariant: the content from byte k on is zero where it is from the count on.
-use Rattle.std.proofs.Common.{◌-◌, refl, ◌∙◌, arith}
+use Rattle.std.proofs.Common.{refl, ◌∙◌, arith}
 use Rattle.blocks.proofs.Reading.{zero_turn, zero_stop, zero_end}
 use Rattle.blocks.proofs.zero_past.Goals as goal
 
