@@ -1,7 +1,7 @@
 -- A law tried at the last word of a plan, and its right side compared with the words of a subplan: by that a step backwards is made.
 use Prim.Native.Nat.{ℕ, pred, ◌+◌, ◌-◌, ◌≤◌}
 use native.Mathlib.Omega.{arith}
-use mathlib.Core.Path.{◌≡◌, refl, sym, ◌∙◌, ap, subst}
+use mathlib.Core.Path.{◌≡◌, refl, sym, ◌∙◌, ap}
 use mathlib.Core.Bool.{Bool, true, false, not, cond}
 use mathlib.Core.List.{List}
 use mathlib.Core.Option.{Option, none, some}
@@ -13,7 +13,6 @@ use Rattle.tables.specs.Tables.{Tables, actions}
 use Rattle.plans.specs.Term.{Term, words, Over}
 use Rattle.plans.specs.Place.{subterm, put}
 use Rattle.plans.specs.Judging.{words_refusal}
-use Rattle.plans.specs.Start.{start_of}
 use Rattle.plans.proofs.Reading.{term-said}
 use Rattle.plans.proofs.Place.{stack_at}
 use Rattle.plans.proofs.Put.{whole-subterm}
@@ -24,7 +23,7 @@ use Rattle.laws.proofs.Tables.{Proper}
 use Rattle.laws.proofs.Sound.{same_list}
 use Rattle.laws.proofs.Backward.{at_last, not_last}
 use Rattle.rewritings.specs.Roots.{law_term}
-use Rattle.matching.specs.Start.{Readable, Ready, RightStarts}
+use Rattle.matching.specs.Start.{Ready, RightStarts}
 use Rattle.matching.specs.Right.{spelled_law, law_size, Reaches}
 use Rattle.matching.specs.Tried.{Tried, fails, fits, gives}
 use Rattle.matching.proofs.Sides.{spelled_law-length}
