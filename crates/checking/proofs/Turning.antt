@@ -13,7 +13,6 @@ use Rattle.tables.specs.Tables.{Tables, actions}
 use Rattle.plans.specs.Judging.{words_refusal}
 use Rattle.laws.specs.Laws.{highest_law}
 use Rattle.laws.specs.Step.{step, step_back}
-use Rattle.rewritings.specs.Moves.{Move}
 use Rattle.rewritings.specs.Records.{Recorded, forward, backward, records_of}
 use Rattle.buffer.specs.declared.State.{State}
 use Rattle.steps.specs.declared.Attempt.{Attempt}
