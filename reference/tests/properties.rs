@@ -15,7 +15,7 @@ use reference::records::cut;
 use reference::stations::{program, read_station, station_file};
 use reference::tables::{judge_tables, trial_tables, TABLES_LENGTH};
 use reference::trees::alike;
-use reference::unfolding;
+use reference::unfolding::{self, unfold};
 use std::collections::BTreeSet;
 
 #[test]
@@ -133,6 +133,43 @@ fn accepted_means_alike_for_every_law() {
         (1..=32).collect::<Vec<_>>()
     );
     assert!(differing > 1000);
+}
+
+#[test]
+fn the_least_limits_are_enough_and_no_less() {
+    let mut random = Random::new(8);
+    for _ in 0..600 {
+        let tables = lawful_tables(&mut random);
+        let plan = small_plan(&mut random, tables[0], 8);
+        let Some((steps, longest)) = whole_unfolding(&tables, &plan) else {
+            continue;
+        };
+        let ended = |allowance: usize, list: usize, area: usize| {
+            let (mut list, mut a, mut b) = (vec![9; list], vec![9; area], vec![9; area + 1]);
+            unfold(&tables, &plan, allowance as u32, &mut list, &mut a, &mut b).number()
+        };
+        assert_eq!(ended(steps, 3 * steps, longest), 0);
+        if steps > 0 {
+            assert_eq!(ended(steps - 1, 3 * steps, longest), 34);
+            assert_eq!(ended(steps, 3 * steps - 1, longest), 35);
+        }
+        let too_small = if longest == plan.len() { 15 } else { 36 };
+        assert_eq!(ended(steps, 3 * steps, longest - 1), too_small);
+    }
+}
+
+/// The steps and the longest plan of an unfolding of at most 2,000 steps.
+fn whole_unfolding(tables: &[u8], plan: &[u8]) -> Option<(usize, usize)> {
+    let mut current = plan.to_vec();
+    let mut longest = current.len();
+    for steps in 0..2000 {
+        let Some((law, place)) = next_step(tables, &current) else {
+            return Some((steps, longest));
+        };
+        current = apply(tables, &current, law, place).unwrap();
+        longest = longest.max(current.len());
+    }
+    None
 }
 
 #[test]

@@ -2,10 +2,11 @@
 // refusals included, and every lent byte at exit; where the answer has a number in docs/NUMBERS.md, `numbers` says it by that number; further
 // clauses say what is claimed of it.
 //
-// How a contract reads: `ensures* NAME { λ r. ⌜ … ⌝ }` is proved of whatever `r` the call returns. `now x.entry` is what a lent slice `x` holds,
-// as a list of numbers, when the call begins (of a lent `bool`, true or false), and `now x.exit` when it ends; a number's name is its value. `≡`
-// is equality, `×` is "and", and `↔` is "exactly when". `ghost use` brings in the definitions that contracts cite: those of `Rattle.NAME.specs`
-// stand in crates/NAME/specs, and those of this crate are `Rattle.aberulwy.specs`; `declared` holds the enums and structs of the code.
+// How a contract reads: `ensures NAME { .. }` is proved of whatever `result` the call returns. `x.now` is what a lent slice `x` that is only read
+// holds, as a list of numbers; `x.old` and `x.new` are what one that is written holds when the call begins and when it ends (of a lent `bool`, true
+// or false); a number's name is its value. `≡` is equality, `×` is "and", and `↔` is "exactly when". `ghost use` brings in the definitions that
+// contracts cite: those of `Rattle.NAME.specs` stand in crates/NAME/specs, and those of this crate are `Rattle.aberulwy.specs`; `declared` holds
+// the enums and structs of the code.
 // `◌≡◌ {A = R} x y` is `x ≡ y` between records of type R.
 #![tactic(auto)]
 
@@ -235,13 +236,13 @@ pub fn read_text(tables: &[u8], text: &[u8], plan: &mut [u8]) -> TextRead
 // of messages that follows is claimed here.
 pub fn fresh_walk(tables: &[u8], plan: &[u8], marks: &mut [u8], finished: &mut bool) -> Judgement
     ensures whole { ◌≡◌ {A = WalkOutcome}
-        (record { answer = result; progress = record { marks = marks.exit.now; finish = finished.new } })
+        (record { answer = result; progress = record { marks = marks.new; finish = finished.new } })
         (fresh_outcome tables.now plan.now
-        (record { marks = marks.entry.now; finish = finished.old })) }
+        (record { marks = marks.old; finish = finished.old })) }
     ensures numbers { report result ≡ reported (not_walkable_refusal tables.now plan.now marks.old) [] }
     ensures claims { FreshClaims tables.now plan.now
-        (record { marks = marks.entry.now; finish = finished.old })
-        (record { answer = result; progress = record { marks = marks.exit.now; finish = finished.new } }) }
+        (record { marks = marks.old; finish = finished.old })
+        (record { answer = result; progress = record { marks = marks.new; finish = finished.new } }) }
 {
     walks::fresh_walk(tables, plan, marks, finished)
 }
@@ -257,14 +258,14 @@ pub fn walk(
     finished: &mut bool,
 ) -> Judgement
     ensures whole { ◌≡◌ {A = WalkOutcome}
-        (record { answer = result; progress = record { marks = marks.exit.now; finish = finished.new } })
+        (record { answer = result; progress = record { marks = marks.new; finish = finished.new } })
         (walk_outcome tables.now plan.now message
-        (record { marks = marks.entry.now; finish = finished.old })) }
+        (record { marks = marks.old; finish = finished.old })) }
     ensures numbers { report result ≡ reported (walk_refusal tables.now plan.now message
-        (record { marks = marks.entry.now; finish = finished.old })) [] }
+        (record { marks = marks.old; finish = finished.old })) [] }
     ensures claims { WalkClaims tables.now plan.now message
-        (record { marks = marks.entry.now; finish = finished.old })
-        (record { answer = result; progress = record { marks = marks.exit.now; finish = finished.new } }) }
+        (record { marks = marks.old; finish = finished.old })
+        (record { answer = result; progress = record { marks = marks.new; finish = finished.new } }) }
 {
     walks::walk(tables, plan, marks, message, finished)
 }

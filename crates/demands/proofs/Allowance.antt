@@ -20,7 +20,7 @@ use Rattle.rewritings.specs.Runs.{Run, run_of}
 use Rattle.rewritings.proofs.Moves.{bytes_append}
 use Rattle.rewritings.proofs.Runs.{within-allowance, same_with_more, begins_with_more}
 use Rattle.ending.specs.Ending.{Steps, Within, ComesTo}
-use Rattle.ending.proofs.Ending.{every_plan_ends}
+use Rattle.ending.proofs.Ending.{every_plan_comes_to_an_end}
 use Rattle.ending.proofs.Steps.{one_further, left_over, no_longer, ends-once, within-rest, basic-quiet, comes-once}
 use Rattle.unfolding.specs.declared.Unfolded.TheVariants.{Finished, Stopped}
 use Rattle.unfolding.specs.Unfolding.{unfolded, settled, unfold_refusal, UnfoldOutcome, unfold_outcome}
@@ -33,7 +33,7 @@ use Rattle.demands.proofs.Reports.{shown, shown-finished, shown-stopped, told, r
 pub end-claims : (t : Tables) (plan : List ℕ) (p : AcceptedPlan t plan) → EndClaims t plan (steps_needed t plan p) (end_plan t plan p)
 unfolding steps_needed end_plan
 end-claims t plan p =
-    let e = every_plan_ends t plan p in
+    let e = every_plan_comes_to_an_end t plan p in
     let few = p.lawful.well_formed.few_actions in
     record {
       comes = e.comes;

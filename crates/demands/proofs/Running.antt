@@ -18,7 +18,7 @@ use Rattle.rewritings.proofs.Bytes.{LawedAll, forwards}
 use Rattle.rewritings.proofs.Choosing.{Taken, next-taken}
 use Rattle.rewritings.specs.Runs.{Run, move, run, run_of}
 use Rattle.rewritings.proofs.Runs.{stop, by_run}
-use Rattle.ending.specs.Ending.{Steps, none_made, one_more}
+use Rattle.ending.specs.Ending.{Steps, none_left, one_more}
 use Rattle.ending.proofs.Steps.{same_next, no_steps}
 use Rattle.checking.specs.Checking.{step_of, replay, unknown_law, left_refusal}
 use Rattle.laws.proofs.Sound.{same_itself}
@@ -71,7 +71,7 @@ module _ (t : Tables) (c : ℕ) where
         counted = omega arith;
         held = omega arith;
         chain = no_step;
-        path = none_made;
+        path = none_left;
         short = λ h j u p l. subst (λ (x : List ℕ). length x ≤ c) (no_steps t p (omega (arith, l))) h;
         ends = e;
       }
@@ -95,7 +95,7 @@ module _ (t : Tables) (c : ℕ) where
     lawed_all = ((omega (arith, taken.low), taken.high), F.lawed)
 
     short_all : {j : ℕ} {x u : List ℕ} → Steps t j x u → w ≡ x → length w ≤ c → j ≤ suc (length F.own) → length u ≤ c
-    short_all none_made h q l = rw (← h) q
+    short_all none_left h q l = rw (← h) q
     short_all {u = u} (one_more {k = j} s' e' p) h q l =
         F.short shorter j u (subst (λ (x : List ℕ). Steps t j x u) (sym (same_next t e e' h)) p) (omega (arith, l))
 

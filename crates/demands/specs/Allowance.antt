@@ -7,7 +7,7 @@ use Rattle.tables.specs.Tables.{Tables}
 use Rattle.plans.specs.Accepted.{AcceptedPlan, BasicPlan}
 use Rattle.rewritings.specs.Choice.{next_step}
 use Rattle.ending.specs.Ending.{Within, ComesTo}
-use Rattle.ending.proofs.Ending.{every_plan_ends}
+use Rattle.ending.proofs.Ending.{every_plan_comes_to_an_end}
 use Rattle.unfolding.specs.declared.Unfolded.TheVariants.{Finished, Stopped}
 use Rattle.unfolding.specs.Unfolding.{UnfoldOutcome, unfold_outcome}
 use Rattle.demands.specs.Reports.{UnfoldGiven, Reports, own_rewriting, reached_in}
@@ -19,10 +19,10 @@ most_steps = 4294967295
 -- "that number", of steps after which the run without limits from an accepted plan comes to a basic plan; and that plan. That there are such a number
 -- and such a plan is a theorem, and they are those that it gives; `EndClaims` says which they are without it.
 unfoldable pub steps_needed : (t : Tables) (plan : List ℕ) → AcceptedPlan t plan → ℕ
-steps_needed t plan p = (every_plan_ends t plan p).steps
+steps_needed t plan p = (every_plan_comes_to_an_end t plan p).steps
 
 unfoldable pub end_plan : (t : Tables) (plan : List ℕ) → AcceptedPlan t plan → List ℕ
-end_plan t plan p = (every_plan_ends t plan p).end
+end_plan t plan p = (every_plan_comes_to_an_end t plan p).end
 
 -- Of the run without limits from an accepted plan, where `needed` is that number and `end` that plan:
 pub record EndClaims (t : Tables) (plan : List ℕ) (needed : ℕ) (end : List ℕ) : Type 0 where

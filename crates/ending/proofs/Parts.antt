@@ -17,14 +17,14 @@ use Rattle.laws.specs.Laws.{first_choice, choices}
 use Rattle.rewritings.specs.Choice.{next_step}
 use Rattle.rewritings.proofs.Choosing.{fits_none}
 use Rattle.rewritings.proofs.Quiet.{sign-one, sign-two, quiet-push, next_found}
-use Rattle.ending.specs.Ending.{Steps, none_made, one_more}
+use Rattle.ending.specs.Ending.{Steps, none_left, one_more}
 
 -- any number of steps
 abbrev pub Run : Tables → List ℕ → List ℕ → Type 0
 Run t w v = (k : ℕ) × Steps t k w v
 
 run_on : {t : Tables} {j k : ℕ} {u v w : List ℕ} → Steps t j u v → Steps t k v w → Run t u w
-run_on {k = k} none_made r = (k, r)
+run_on {k = k} none_left r = (k, r)
 run_on (one_more s e q) r = let c = run_on q r in (suc c.0, one_more s e c.1)
 
 run-then : {t : Tables} {u v w : List ℕ} → Run t u v → Run t v w → Run t u w
@@ -55,7 +55,7 @@ module _ (t : Tables) (few : actions t ≤ 31) where
 
   -- a basic term settles with no step
   pub settled : (u : Term) → Fine t u → Settles t u
-  settled u f = record { end = u; fine = f; reaches = λ S g e suf. (0, none_made) }
+  settled u f = record { end = u; fine = f; reaches = λ S g e suf. (0, none_left) }
 
   -- a term settles where steps bring it to one that does
   settles_by : {u v : Term} → Reaches t u v → Settles t v → Settles t u
@@ -103,7 +103,7 @@ module _ (t : Tables) (few : actions t ≤ 31) where
         1,
         one_more _
             (next_found t few S (un o x) ((i, h.1), g) (spell (x ∷ S)) (unary_word o) (sign-one o x S) (quiet-more S x g h e) k v q suf)
-            (rw (append_assoc (spell S) (words v) suf) none_made),
+            (rw (append_assoc (spell S) (words v) suf) none_left),
       ))
       s
 
@@ -116,6 +116,6 @@ module _ (t : Tables) (few : actions t ≤ 31) where
         one_more _
             (next_found t few S (bin o x y) ((h.1, i.1), g) (spell (y ∷ (x ∷ S))) (binary_word o) (sign-two o x y S)
             (quiet-more (x ∷ S) y (h.1, g) i (quiet-more S x g h e)) k v q suf)
-            (rw (append_assoc (spell S) (words v) suf) none_made),
+            (rw (append_assoc (spell S) (words v) suf) none_left),
       ))
       s

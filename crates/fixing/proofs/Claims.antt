@@ -24,7 +24,6 @@ use Rattle.plans.proofs.Options.{never}
 use Rattle.plans.proofs.Accepted.{accepted-plan, basic_plan}
 use Rattle.trees.specs.Tree.{Alike}
 use Rattle.trees.specs.Meaning.{tree}
-use Rattle.forms.specs.Form.{form}
 use Rattle.forms.specs.InForm.{InForm}
 use Rattle.forms.proofs.Kept.{form-tree}
 use Rattle.forms.proofs.Same.{equal_forms_iff_alike}

@@ -6,7 +6,7 @@ use mathlib.Core.List.Memᴰ.{head as at_head}
 use mathlib.Core.List.Memᴰ.{tail as in_Tail}
 use mathlib.Core.List.{List, [], ◌∷◌, ◌++◌, map, Memᴰ as In}
 use lib.ListN.{length, get_or, take, drop, length-append, length-drop}
-use lib.Seq.{drop-cons, length-take-le, take_at, get_or_at}
+use lib.Seq.{drop-cons, length-take-le, take_at, get_or_at, get_or-take}
 use Rattle.forms.specs.Gathering.{extend}
 use Rattle.forms.specs.Sorting.{total}
 use Rattle.forms.proofs.Members.{All}
@@ -115,3 +115,7 @@ put_back l v k e h i j =
     behind : (v : List ℕ) → length v ≡ e - k → get_or (take k l ++ (v ++ drop (e - k) (drop k l))) k 0 ≡ get_or v 0 0
     behind [] j = absurd (omega arith)
     behind (a ∷ v) j = get_or_at (take k l) a (v ++ drop (e - k) (drop k l)) 0 k (length-take-le k l (omega arith))
+
+-- what stands before them is as it was
+pub put_back-below : {l v l' : List ℕ} {k : ℕ} → PutBack l v k l' → (j : ℕ) → j < k → get_or l' j 0 ≡ get_or l j 0
+put_back-below {l} {v} {l'} {k} p j h = sym (get_or-take k l' j 0 h) ∙ (ap (λ m. get_or m j 0) p.below ∙ get_or-take k l j 0 h)

@@ -50,7 +50,7 @@ fn take_action(
     requires { (i < most_words) × (stack.entries ≤ i) × (stack.parts ≤ i) × (length sizes.old ≡ most_words) × (length ends.old ≡ most_words)
         × (length entries.old ≡ most_words) × (length starts.old ≡ most_words) }
     ensures { (sizes.new ≡ set sizes.old i 1) × (ends.new ≡ set ends.old i i)
-        × (entries.exit.now ≡ set entries.entry.now stack.entries i)
+        × (entries.new ≡ set entries.old stack.entries i)
         × (starts.new ≡ set starts.old stack.parts stack.entries)
         × (result ≡ record { entries = stack.entries + 1; parts = stack.parts + 1 }) }
 {

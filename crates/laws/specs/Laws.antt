@@ -9,8 +9,8 @@ use Rattle.plans.specs.declared.Unary.TheVariants.{Priority, Encapsulation}
 use Rattle.plans.specs.Word.{binary_word}
 use Rattle.plans.specs.Term.{Term, act, un, bin, words, and_then}
 
--- "Product binds closest", then ‖ ⌊ | ◁, then +
-infixl 20 ◌+◌
+-- "Product binds closest", then ‖ ⌊ | ◁, then +, which is ⊞ here: + itself is the sum of numbers
+infixl 20 ◌⊞◌
 infixl 25 ◌∥◌ ◌⌊◌ ◌∣◌ ◌◁◌
 infixl 30 ◌·◌
 -- A pattern. Letters are numbered: 0 to 2 stand for any plan, 3 and 4 for "any actions, 0 included". `entry` is the table entry of
@@ -38,8 +38,8 @@ a = any_action 3
 abbrev b : Pattern
 b = any_action 4
 
-abbrev ◌+◌ : Pattern → Pattern → Pattern
-p + q = node Choice p q
+abbrev ◌⊞◌ : Pattern → Pattern → Pattern
+p ⊞ q = node Choice p q
 
 abbrev ◌·◌ : Pattern → Pattern → Pattern
 p · q = node Sequence p q
@@ -76,38 +76,38 @@ l ⟶ r if c = record { lhs = l; when = c; rhs = r }
 -- laws 1 to 32, each with its name in the papers
 unfoldable pub laws : List Law
 laws =
-    (x + y ⟶ y + x)  -- 1, A1
-    ∷ (x + (y + z) ⟶ (x + y) + z)  -- 2, A2
-    ∷ ((x + y) + z ⟶ x + (y + z))  -- 3, A2 from right to left
-    ∷ (x + y ⟶ x if same_words)  -- 4, A3
-    ∷ ((x + y) · z ⟶ x · z + y · z)  -- 5, A4
+    (x ⊞ y ⟶ y ⊞ x)  -- 1, A1
+    ∷ (x ⊞ (y ⊞ z) ⟶ (x ⊞ y) ⊞ z)  -- 2, A2
+    ∷ ((x ⊞ y) ⊞ z ⟶ x ⊞ (y ⊞ z))  -- 3, A2 from right to left
+    ∷ (x ⊞ y ⟶ x if same_words)  -- 4, A3
+    ∷ ((x ⊞ y) · z ⟶ x · z ⊞ y · z)  -- 5, A4
     ∷ ((x · y) · z ⟶ x · (y · z))  -- 6, A5
-    ∷ (x + δ ⟶ x)  -- 7, A6
-    ∷ (δ + x ⟶ x)  -- 8, A6 of source 001
+    ∷ (x ⊞ δ ⟶ x)  -- 7, A6
+    ∷ (δ ⊞ x ⟶ x)  -- 8, A6 of source 001
     ∷ (δ · x ⟶ δ)  -- 9, A7
     ∷ (a ∣ b ⟶ entry)  -- 10, the communication function of C1 to C3
-    ∷ (x ∥ y ⟶ (x ⌊ y + y ⌊ x) + x ∣ y)  -- 11, CM1
+    ∷ (x ∥ y ⟶ (x ⌊ y ⊞ y ⌊ x) ⊞ x ∣ y)  -- 11, CM1
     ∷ (a ⌊ x ⟶ a · x)  -- 12, CM2
     ∷ (a · x ⌊ y ⟶ a · (x ∥ y))  -- 13, CM3
-    ∷ ((x + y) ⌊ z ⟶ x ⌊ z + y ⌊ z)  -- 14, CM4
+    ∷ ((x ⊞ y) ⌊ z ⟶ x ⌊ z ⊞ y ⌊ z)  -- 14, CM4
     ∷ ((a · x) ∣ b ⟶ (a ∣ b) · x)  -- 15, CM5
     ∷ (a ∣ (b · x) ⟶ (a ∣ b) · x)  -- 16, CM6
     ∷ ((a · x) ∣ (b · y) ⟶ (a ∣ b) · (x ∥ y))  -- 17, CM7
-    ∷ ((x + y) ∣ z ⟶ x ∣ z + y ∣ z)  -- 18, CM8
-    ∷ (x ∣ (y + z) ⟶ x ∣ y + x ∣ z)  -- 19, CM9
+    ∷ ((x ⊞ y) ∣ z ⟶ x ∣ z ⊞ y ∣ z)  -- 18, CM8
+    ∷ (x ∣ (y ⊞ z) ⟶ x ∣ y ⊞ x ∣ z)  -- 19, CM9
     ∷ (∂ a ⟶ a if a_not_in_set)  -- 20, D1
     ∷ (∂ a ⟶ δ if a_in_set)  -- 21, D2
-    ∷ (∂ (x + y) ⟶ ∂ x + ∂ y)  -- 22, D3
+    ∷ (∂ (x ⊞ y) ⟶ ∂ x ⊞ ∂ y)  -- 22, D3
     ∷ (∂ (x · y) ⟶ ∂ x · ∂ y)  -- 23, D4
     ∷ (a ◁ b ⟶ a if a_not_below_b)  -- 24, P1
     ∷ (a ◁ b ⟶ δ if a_below_b)  -- 25, P2
     ∷ (x ◁ y · z ⟶ x ◁ y)  -- 26, P3
-    ∷ (x ◁ (y + z) ⟶ (x ◁ y) ◁ z)  -- 27, P4
+    ∷ (x ◁ (y ⊞ z) ⟶ (x ◁ y) ◁ z)  -- 27, P4
     ∷ (x · y ◁ z ⟶ (x ◁ z) · y)  -- 28, P5
-    ∷ ((x + y) ◁ z ⟶ x ◁ z + y ◁ z)  -- 29, P6
+    ∷ ((x ⊞ y) ◁ z ⟶ x ◁ z ⊞ y ◁ z)  -- 29, P6
     ∷ (θ a ⟶ a)  -- 30, TH1
     ∷ (θ (x · y) ⟶ θ x · θ y)  -- 31, TH2
-    ∷ (θ (x + y) ⟶ θ x ◁ y + θ y ◁ x)  -- 32, TH3
+    ∷ (θ (x ⊞ y) ⟶ θ x ◁ y ⊞ θ y ◁ x)  -- 32, TH3
     ∷ []
 
 -- the number of the last of them

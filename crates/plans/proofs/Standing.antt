@@ -1,6 +1,6 @@
 -- The terms that wait at a place of a plan, and where they stand in its words.
 use Prim.Native.Nat.{ℕ, suc, ◌+◌, ◌-◌, ◌≤◌}
-use mathlib.Core.Path.{◌≡◌, refl, sym, ◌∙◌, ap}
+use mathlib.Core.Path.{◌≡◌, refl, sym, ◌∙◌}
 use mathlib.Core.List.{List, [], ◌∷◌, ◌++◌, append_assoc}
 use mathlib.Core.Option.{some}
 use native.Mathlib.Omega.{arith}
@@ -11,7 +11,7 @@ use Rattle.plans.specs.Word.{binary_word, unary_word}
 use Rattle.plans.specs.Term.{Term, act, un, bin, words, read}
 use Rattle.plans.specs.Place.{subterm, part}
 use Rattle.plans.specs.Stack.{spell}
-use Rattle.plans.proofs.Reading.{OverAll, read-append, read-spell, read-said}
+use Rattle.plans.proofs.Reading.{OverAll, read-spell, read-said}
 use Rattle.plans.specs.Start.{start_of}
 use Rattle.plans.specs.Place.{part}
 

@@ -1,7 +1,6 @@
 -- The law that what the operands are tell is the lowest of laws 5 to 32 that fits, and its letters stand for what they are bound to.
 use Prim.Native.Nat.{ℕ, ◌+◌, ◌≤◌}
 use mathlib.Core.Path.{◌≡◌, refl, ◌∙◌}
-use native.Mathlib.Omega.{arith}
 use Rattle.tables.specs.Tables.{Tables, actions}
 use Rattle.tables.specs.Lawful.{Lawful}
 use Rattle.plans.specs.declared.Binary.{Binary}

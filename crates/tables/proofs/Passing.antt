@@ -12,7 +12,7 @@ use Rattle.refusals.specs.declared.Place.TheVariants.{Nowhere, Byte, Triple}
 use Rattle.refusals.specs.declared.Refusal.{Refusal}
 use Rattle.refusals.specs.Refusal.{refuse, or_else}
 use Rattle.refusals.proofs.Judging.{none_of_both}
-use Rattle.tables.specs.Tables.{Tables, most_actions, row_length}
+use Rattle.tables.specs.Tables.{most_actions, row_length}
 use Rattle.tables.specs.Search.{first_of, first_from, unless_met}
 use Rattle.tables.specs.Judging.{first_entry, first_triple, count_refusal}
 

@@ -44,9 +44,9 @@ fn judge_walk(tables: &[u8], plan: &[u8], marks: &[u8]) -> Judgement
 // Begins a walk: one mark, at the plan's last word, and no finish reached. Where it is refused, marks and finish stay as they are.
 pub fn fresh_walk(tables: &[u8], plan: &[u8], marks: &mut [u8], finished: &mut bool) -> Judgement
     ensures whole { ◌≡◌ {A = WalkOutcome}
-        (record { answer = result; progress = record { marks = marks.exit.now; finish = finished.new } })
+        (record { answer = result; progress = record { marks = marks.new; finish = finished.new } })
         (fresh_outcome tables.now plan.now
-        (record { marks = marks.entry.now; finish = finished.old })) }
+        (record { marks = marks.old; finish = finished.old })) }
 {
     let judgement = judge_walk(tables, plan, &*marks);
     if let Judgement::Refused(_) = judgement {
@@ -94,9 +94,9 @@ fn take_message(
 ) -> Judgement
     requires { Walking n plan.now marks.old × (outside? n message ≡ false) × (length held.old ≡ most_words) }
     ensures { ◌≡◌ {A = WalkOutcome}
-        (record { answer = result; progress = record { marks = marks.exit.now; finish = finished.new } })
-        (message_outcome (take_message n plan.now message (record { marks = marks.entry.now; finish = finished.old }))
-        (record { marks = marks.entry.now; finish = finished.old })) }
+        (record { answer = result; progress = record { marks = marks.new; finish = finished.new } })
+        (message_outcome (take_message n plan.now message (record { marks = marks.old; finish = finished.old }))
+        (record { marks = marks.old; finish = finished.old })) }
 {
     let words = plan.len();
     let finishes = find_next(n, plan, &*marks, message, &mut held[..words]);
@@ -120,9 +120,9 @@ pub fn walk(
     finished: &mut bool,
 ) -> Judgement
     ensures whole { ◌≡◌ {A = WalkOutcome}
-        (record { answer = result; progress = record { marks = marks.exit.now; finish = finished.new } })
+        (record { answer = result; progress = record { marks = marks.new; finish = finished.new } })
         (walk_outcome tables.now plan.now message
-        (record { marks = marks.entry.now; finish = finished.old })) }
+        (record { marks = marks.old; finish = finished.old })) }
 {
     let judgement = judge_walk(tables, plan, &*marks);
     if let Judgement::Refused(_) = judgement {

@@ -51,9 +51,9 @@ pub fn pass(
     next: &mut [u8],
 ) -> bool
     requires { Passing n plan.now starts.now left.old next.old }
-    ensures { ◌≡◌ {A = Pass} (record { left = left.exit.now; next = next.new; ending = result })
+    ensures { ◌≡◌ {A = Pass} (record { left = left.new; next = next.new; ending = result })
         (pass n plan.now message (length plan.now)
-        (record { left = left.entry.now; next = next.old; ending = false })) }
+        (record { left = left.old; next = next.old; ending = false })) }
 {
     let mut finishes = false;
     let mut i = plan.len();

@@ -1,6 +1,5 @@
 //! Cases: a call with everything handed to it, how cases are drawn, and what comes out.
 
-use crate::allowances::TwoAllowancesCase;
 use crate::answers::Answer;
 use crate::fixing::{FormOfFormCase, TwoFormsCase};
 use crate::implementation::{Call, Implementation};
@@ -12,7 +11,6 @@ use reference::random::cases::{
     any_derivation, check_case, own_rewriting_case, tables_and_plan, unfold_case_of, CheckCase,
     UnfoldCase,
 };
-use reference::random::ending::{with_growing_plan, Ended};
 use reference::random::forms::{form_case, FormCase};
 use reference::random::plans::{basic_plan, plan, repeating_basic_plan};
 use reference::random::precedence::{precedence_case, PrecedenceCase};
@@ -28,7 +26,7 @@ use reference::stations::{program, station_file};
 use reference::tables::trial_tables;
 
 /// One call, with everything handed to it; or the calls of one walk, of one round trip, of two
-/// forms, of two allowances, or of a rewriting and the same turned round.
+/// forms, or of a rewriting and the same turned round.
 #[derive(Clone, Debug)]
 pub enum Case {
     /// Tables to judge.
@@ -41,8 +39,6 @@ pub enum Case {
     CountOrders(Vec<u8>, Vec<u8>),
     /// An unfolding.
     Unfold(UnfoldCase),
-    /// An unfolding, and the same with an allowance that is no smaller.
-    TwoAllowances(TwoAllowancesCase),
     /// A rewriting to check.
     CheckRewriting(CheckCase),
     /// A rewriting to check, and the same turned round.
@@ -154,7 +150,7 @@ impl Case {
     /// The case of this seed.
     pub fn draw(seed: u64) -> Case {
         let random = &mut Random::new(seed);
-        match random.below(38) {
+        match random.below(36) {
             0 => Case::JudgeTables(any_tables(random)),
             1 | 2 => {
                 let (tables, plan) = handed_in(random);
@@ -192,13 +188,12 @@ impl Case {
             30 | 31 => Case::WriteStation(write_case(random)),
             32 => round_trip(random),
             33 | 34 => Case::FixForm(form_case(random)),
-            35 => two_forms(random),
-            _ => two_allowances(random),
+            _ => two_forms(random),
         }
     }
 
-    /// Makes the call, or the calls of a walk, of a round trip, of two forms, of two allowances or of a
-    /// rewriting turned round, leaving the case as it is.
+    /// Makes the call, or the calls of a walk, of a round trip, of two forms or of a rewriting turned
+    /// round, leaving the case as it is.
     pub fn run(&self, implementation: &impl Implementation) -> Outcome {
         match self {
             Case::FreshWalk(case) => Walking::before(case).begin(implementation),
@@ -209,17 +204,7 @@ impl Case {
             Case::FormOfForm(case) => case.run(implementation),
             Case::TwoForms(case) => case.run(implementation),
             Case::TurnedRound(case) => case.run(implementation),
-            Case::TwoAllowances(case) => case.run(implementation),
             _ => self.make_call(implementation),
-        }
-    }
-
-    /// What an outcome of the case breaks of that which is said of such a case, by itself and without
-    /// another implementation: only of two allowances anything is.
-    pub(crate) fn broken(&self, outcome: &Outcome) -> Option<&'static str> {
-        match self {
-            Case::TwoAllowances(case) => case.broken(outcome),
-            _ => None,
         }
     }
 
@@ -412,19 +397,6 @@ fn two_forms(random: &mut Random) -> Case {
         false => TwoFormsCase::of(random, &fixing).map(Case::TwoForms),
     };
     both.unwrap_or(Case::FixForm(fixing))
-}
-
-/// A plan unfolded with two allowances, at times one whose run has a plan about as long as a plan may
-/// be; where it is refused, or its run is not soon at its end, one unfolding.
-fn two_allowances(random: &mut Random) -> Case {
-    let (tables, plan) = match random.once_in(LONG_ONCE_IN) {
-        true => with_growing_plan(random),
-        false => handed_in(random),
-    };
-    match Ended::of(tables.clone(), plan.clone()) {
-        Some(ended) => Case::TwoAllowances(TwoAllowancesCase::of(random, &ended)),
-        None => Case::Unfold(unfold_case_of(random, tables, plan)),
-    }
 }
 
 /// An unfolding, and areas for the check that are mostly as long as its own.

@@ -2,13 +2,11 @@
 //! answered, the place, every other number, and everything lent.
 //!
 //! An [`Implementation`] is whatever answers every [`Call`]. [`compare()`] runs
-//! seeded cases until the first difference, which it makes smaller while it stays. Of a plan unfolded
-//! with two allowances it also asks what is said of them, whatever both implementations answer.
+//! seeded cases until the first difference, which it makes smaller while it stays.
 
 #![forbid(unsafe_code)]
 #![warn(missing_docs)]
 
-mod allowances;
 mod answers;
 mod cases;
 mod compare;
@@ -20,7 +18,6 @@ mod shrink;
 mod turning;
 mod walking;
 
-pub use allowances::TwoAllowancesCase;
 pub use answers::Answer;
 pub use cases::{Case, CheckedCase, ListCase, Outcome, ReachedCase};
 pub use compare::{compare, Agreement, Difference};

@@ -90,17 +90,6 @@ impl fmt::Display for Case {
             Case::IsBasic(tables, plan) => judged(f, "is_basic", tables, plan),
             Case::CountOrders(tables, plan) => judged(f, "count_orders", tables, plan),
             Case::Unfold(case) => unfolding(f, "unfold", case),
-            Case::TwoAllowances(case) => {
-                let calls = match case.checked {
-                    false => "unfold, then unfold with no smaller an allowance",
-                    true => "unfold, then unfold_checked with no smaller an allowance",
-                };
-                unfolding(f, calls, &case.unfolding)?;
-                writeln!(f, "  second allowance: {}", case.larger)?;
-                writeln!(f, "  second list: {}", Bytes(&case.list))?;
-                writeln!(f, "  second a: {}", Bytes(&case.a))?;
-                writeln!(f, "  second b: {}", Bytes(&case.b))
-            }
             Case::CheckRewriting(case) => checking(f, "check_rewriting", case),
             Case::TurnedRound(case) => {
                 let calls = "check_rewriting, then check_rewriting turned round";
@@ -256,11 +245,7 @@ impl fmt::Display for Difference {
         )?;
         write!(f, "{}", self.case)?;
         writeln!(f, "  first: {}", self.first)?;
-        writeln!(f, "  second: {}", self.second)?;
-        match self.broken {
-            Some(said) => writeln!(f, "  the second breaks: {said}"),
-            None => Ok(()),
-        }
+        writeln!(f, "  second: {}", self.second)
     }
 }
 

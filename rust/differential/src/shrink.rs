@@ -1,6 +1,5 @@
 //! Making a case smaller while it keeps what makes it interesting.
 
-use crate::allowances::TwoAllowancesCase;
 use crate::cases::{Case, CheckedCase, ListCase, ReachedCase};
 use crate::fixing::{FormOfFormCase, TwoFormsCase};
 use crate::round_trips::{RereadCase, RewriteCase};
@@ -56,7 +55,6 @@ fn smaller(case: &Case) -> Vec<Case> {
         Case::IsBasic(tables, plan) => smaller_judged(tables, plan, Case::IsBasic),
         Case::CountOrders(tables, plan) => smaller_judged(tables, plan, Case::CountOrders),
         Case::Unfold(case) => each(smaller_unfoldings(case), Case::Unfold),
-        Case::TwoAllowances(case) => smaller_two_allowances(case),
         Case::CheckRewriting(case) => each(smaller_checks(case), Case::CheckRewriting),
         Case::TurnedRound(case) => smaller_turned(case),
         Case::ReadStation(case) => each(smaller_stations(case), Case::ReadStation),
@@ -91,11 +89,6 @@ fn weight(case: &Case) -> u64 {
         | Case::IsBasic(tables, plan)
         | Case::CountOrders(tables, plan) => bytes(&[tables, plan]),
         Case::Unfold(case) => unfolding_weight(case),
-        // One more than both calls, and the check's areas are the first one's.
-        Case::TwoAllowances(case) => {
-            let second = unlike(&[&case.list, &case.a, &case.b]) + u64::from(case.larger);
-            unfolding_weight(&case.unfolding) + second + u64::from(case.checked) + 1
-        }
         Case::CheckRewriting(case) => checking_weight(case),
         // More than either call alone: turned round, a rewriting may be much longer.
         Case::TurnedRound(case) => {
@@ -229,71 +222,6 @@ fn smaller_unfoldings(case: &UnfoldCase) -> Vec<UnfoldCase> {
             case.tables = tables
         })
         .found
-}
-
-/// One of the two calls alone, or both with a part made smaller. Both lists stay of one length, and
-/// so do both areas A and both areas B.
-fn smaller_two_allowances(case: &TwoAllowancesCase) -> Vec<Case> {
-    let plans = smaller_plans(&case.unfolding.plan);
-    let allowances = smaller_numbers(case.unfolding.allowance as usize);
-    let changed = Changed::of(case)
-        .with(plans.clone(), with_less_needed)
-        .with(plans, |case, plan| case.unfolding.plan = plan)
-        .with(smaller_numbers(case.larger as usize), |case, number| {
-            case.larger = case.unfolding.allowance.max(number as u32)
-        })
-        .with(allowances, |case, number| {
-            case.unfolding.allowance = number as u32
-        })
-        .with(smaller_numbers(case.list.len()), |case, length| {
-            case.unfolding.list.truncate(length);
-            case.list.truncate(length);
-        })
-        .with(smaller_numbers(case.a.len()), |case, length| {
-            case.unfolding.a.truncate(length);
-            case.a.truncate(length);
-        })
-        .with(smaller_numbers(case.b.len()), |case, length| {
-            case.unfolding.b.truncate(length);
-            case.b.truncate(length);
-        })
-        .with(vec![LENT], |case, byte| {
-            let first = &mut case.unfolding;
-            let lent = [&mut first.list, &mut first.a, &mut first.b];
-            lent.into_iter().for_each(|slice| slice.fill(byte));
-        })
-        .with(vec![LENT], |case, byte| {
-            let lent = [&mut case.list, &mut case.a, &mut case.b];
-            lent.into_iter().for_each(|slice| slice.fill(byte));
-        })
-        .with(vec![false], |case, checked| case.checked = checked)
-        .with(smaller_tables(&case.unfolding.tables), |case, tables| {
-            case.unfolding.tables = tables
-        });
-    let mut found = vec![Case::Unfold(case.unfolding.clone()), case.second()];
-    found.extend(each(changed.found, Case::TwoAllowances));
-    found
-}
-
-/// Puts in a smaller plan, and makes allowances, lists and areas smaller by as much as its run needs
-/// less, so that they stay as much too large or too small.
-fn with_less_needed(case: &mut TwoAllowancesCase, plan: Vec<u8>) {
-    let before = case.whole();
-    case.unfolding.plan = plan;
-    let (Some(before), Some(after)) = (before, case.whole()) else {
-        return;
-    };
-    let less = before.steps.saturating_sub(after.steps);
-    for allowance in [&mut case.unfolding.allowance, &mut case.larger] {
-        *allowance = allowance.saturating_sub(less as u32);
-    }
-    for list in [&mut case.unfolding.list, &mut case.list] {
-        shorten(list, RECORD * before.steps, RECORD * after.steps);
-    }
-    let first = &mut case.unfolding;
-    for area in [&mut first.a, &mut first.b, &mut case.a, &mut case.b] {
-        shorten(area, before.longest, after.longest);
-    }
 }
 
 fn smaller_checked(case: &CheckedCase) -> Vec<Case> {

@@ -1,16 +1,12 @@
 //! The comparison finds damage: copies of the reference, each with one thing changed.
 
 mod checker;
-mod unfolding;
 
-use differential::{
-    compare, Answer, Call, Case, Implementation, Outcome, Reference, TwoAllowancesCase,
-};
+use differential::{compare, Answer, Call, Case, Implementation, Outcome, Reference};
 use reference::forms::form;
 use reference::plans::{counts, is_basic, judge_plan, starts, subplan};
 use reference::precedence::Precedence;
 use reference::random::cases::{turned_case, CheckCase};
-use reference::random::ending::Ended;
 use reference::random::forms::FormCase;
 use reference::random::precedence::PrecedenceCase;
 use reference::random::rewritings::spans;
@@ -18,7 +14,6 @@ use reference::random::stations::WriteCase;
 use reference::random::Random;
 use reference::reading::paths_of;
 use reference::records::{cut, Record};
-use reference::runs::room;
 use reference::stations::{put_sum, put_word, station_file};
 use reference::trees::alike;
 use std::cmp::Ordering;
@@ -362,59 +357,11 @@ enum Damage {
     BackParity,
     /// A step backwards is not counted.
     BackSteps,
-    /// A step more than allowed is made.
-    EndMore,
-    /// 34 is told where the allowance is just enough.
-    EndJust,
-    /// 35 is told where the list is just enough.
-    EndRecords,
-    /// A next plan of exactly C words gets 36.
-    EndTight,
-    /// A plan of more than 16,384 words is taken where the areas hold it.
-    EndRoom,
-    /// A plan longer than C gets 36 without a step.
-    EndStart,
-    /// Finished is 34 under the largest allowance.
-    EndMost,
-    /// The largest allowance counts 0.
-    EndWrapped,
-    /// An allowance of 2,147,483,648 or more counts 0.
-    EndSigned,
-    /// The low two bytes of an allowance alone count.
-    EndBytes,
-    /// An allowance of 0 counts as the largest.
-    EndZero,
-    /// A hundred steps are made at most.
-    EndHundred,
-    /// 35 counts as finished.
-    EndList,
-    /// 36 counts as finished.
-    EndAreas,
-    /// The steps told where it finished are those allowed.
-    EndSteps,
-    /// The step at the greatest place is taken under a large allowance.
-    EndPlaces,
-    /// The highest law is taken under a large allowance.
-    EndLaws,
-    /// The last record's place is another one where steps are left over.
-    EndRecord,
-    /// The list is not cleared behind the records where steps are left over.
-    EndFilling,
-    /// The other area is cleared where steps are left over.
-    EndBefore,
-    /// The areas are exchanged where steps are left over.
-    EndParity,
-    /// The areas are exchanged under 34.
-    EndBehind,
-    /// With a check, finished is 34 under the largest allowance.
-    EndChecked,
-    /// With a check, none is made where steps are left over.
-    EndOwn,
 }
 
 use Damage::*;
 
-const ALL: [Damage; 190] = [
+const ALL: [Damage; 166] = [
     MostActions,
     TripleWeight,
     LongestPlan,
@@ -581,62 +528,6 @@ const ALL: [Damage; 190] = [
     BackTight,
     BackParity,
     BackSteps,
-    EndMore,
-    EndJust,
-    EndRecords,
-    EndTight,
-    EndRoom,
-    EndStart,
-    EndMost,
-    EndWrapped,
-    EndSigned,
-    EndBytes,
-    EndZero,
-    EndHundred,
-    EndList,
-    EndAreas,
-    EndSteps,
-    EndPlaces,
-    EndLaws,
-    EndRecord,
-    EndFilling,
-    EndBefore,
-    EndParity,
-    EndBehind,
-    EndChecked,
-    EndOwn,
-];
-
-/// Those of an unfolding's limits and of its end.
-const ENDINGS: [Damage; 28] = [
-    Allowance,
-    Record,
-    Room,
-    Communication,
-    EndMore,
-    EndJust,
-    EndRecords,
-    EndTight,
-    EndRoom,
-    EndStart,
-    EndMost,
-    EndWrapped,
-    EndSigned,
-    EndBytes,
-    EndZero,
-    EndHundred,
-    EndList,
-    EndAreas,
-    EndSteps,
-    EndPlaces,
-    EndLaws,
-    EndRecord,
-    EndFilling,
-    EndBefore,
-    EndParity,
-    EndBehind,
-    EndChecked,
-    EndOwn,
 ];
 
 /// The reference with damage.
@@ -713,6 +604,49 @@ impl Damaged {
                 answer.values = [once.len() - stuck, stuck];
             }
             _ => {}
+        }
+        answer
+    }
+
+    fn unfold(
+        &self,
+        tables: &[u8],
+        plan: &[u8],
+        allowance: u32,
+        list: &mut [u8],
+        a: &mut [u8],
+        b: &mut [u8],
+    ) -> Answer {
+        let allowance = match self.0 {
+            Allowance => allowance.saturating_sub(1),
+            _ => allowance,
+        };
+        let shown = match self.0 {
+            Record if !list.is_empty() => list.len() - 1,
+            _ => list.len(),
+        };
+        let room = match self.0 {
+            Room => a.len().min(16_383),
+            _ => a.len(),
+        };
+        let last = b.last().copied();
+        let read = self.read(tables);
+        let answer = Reference.answer(Call::Unfold(
+            &read,
+            plan,
+            allowance,
+            &mut list[..shown],
+            &mut a[..room],
+            b,
+        ));
+        if !is_refusal(answer) {
+            list[shown..].fill(0);
+            a[room..].fill(0);
+            match (self.0, b.last_mut()) {
+                (Filling, Some(byte)) => *byte = last.unwrap_or(0),
+                (NoStep, Some(byte)) if answer.values[0] == 0 => *byte = 1,
+                _ => {}
+            }
         }
         answer
     }
@@ -831,8 +765,6 @@ impl Damaged {
             (CheckMade, _) => answer.own[0] = 1,
             (OwnSteps, _) if answer.own[0] == 1 => answer.own[2] += 1,
             (OwnFilling, Some(byte)) => *byte = last.unwrap_or(0),
-            (EndChecked, _) if allowance == u32::MAX && answer.number == 0 => answer.number = 34,
-            (EndOwn, _) if allowance as usize > answer.values[0] => answer.own = [0; 5],
             _ => {}
         }
         answer
@@ -1409,21 +1341,6 @@ fn an_undamaged_copy_checks() {
     assert!(checked > 6000, "{checked}");
 }
 
-/// The same of unfoldings.
-#[test]
-fn an_undamaged_copy_unfolds() {
-    let mut unfolded = 0;
-    for seed in 0..16_000 {
-        let case = Case::draw(seed);
-        if let Case::Unfold(_) | Case::TwoAllowances(_) = case {
-            let [first, second] = [case.run(&Reference), case.run(&Damaged(Nothing))];
-            assert!(first == second, "{seed}");
-            unfolded += 1;
-        }
-    }
-    assert!(unfolded > 2000, "{unfolded}");
-}
-
 #[test]
 fn every_damage_is_found() {
     for damage in ALL {
@@ -1431,21 +1348,6 @@ fn every_damage_is_found() {
         let difference = found.expect_err(&format!("{damage:?} is found"));
         assert_ne!(difference.first, difference.second, "{damage:?}");
     }
-}
-
-/// A copy compared with itself answers every case alike: what is said of two allowances finds the
-/// damage without the reference's unfolding.
-#[test]
-fn every_damaged_ending_breaks_what_is_said() {
-    let mut said = BTreeSet::new();
-    for damage in ENDINGS {
-        let found = compare(&Damaged(damage), &Damaged(damage), 40_000, 4);
-        let difference = found.expect_err(&format!("{damage:?} is found"));
-        assert_eq!(difference.first, difference.second, "{damage:?}");
-        said.extend(difference.broken);
-    }
-    // All that is said of one call, of both and of a check is broken by some copy.
-    assert_eq!(said.len(), 8, "{said:?}");
 }
 
 #[test]
@@ -1463,43 +1365,6 @@ fn a_difference_is_made_small_and_printed() {
     assert!(printed.contains("allowance: 1\n"), "{printed}");
     assert!(printed.contains("  first: number 35, values [0, "));
     assert!(printed.contains("  second: number 34, values [0, "));
-}
-
-#[test]
-fn two_allowances_are_made_small_and_printed() {
-    // A basic plan of a word takes no step, and is not finished without one too many.
-    let difference = compare(&Damaged(EndJust), &Damaged(EndJust), 10_000, 3).unwrap_err();
-    let Case::TwoAllowances(case) = &difference.case else {
-        panic!("{difference}");
-    };
-    assert_eq!(case.unfolding.plan, [0], "{difference}");
-    assert_eq!((case.unfolding.allowance, case.larger), (0, 0));
-    assert_eq!((case.list.len(), case.a.len(), case.b.len()), (0, 1, 1));
-    let printed = difference.to_string();
-    assert!(printed.contains("unfold, then unfold with no smaller an allowance\n  tables: "));
-    assert!(printed.contains("  second allowance: 0\n  second list: []\n  second a: [255]\n"));
-    assert!(printed.contains("  the second breaks: it finishes with what the run needs, "));
-    // A smallest plan that takes a step, and the limits with it; with a check, where one is needed.
-    let difference = compare(&Damaged(EndOwn), &Damaged(EndOwn), 10_000, 3).unwrap_err();
-    let printed = difference.to_string();
-    assert!(printed.contains("unfold, then unfold_checked with no smaller an allowance\n"));
-    assert!(printed.contains("  the second breaks: the unfolding's own rewriting is accepted\n"));
-    let difference = compare(&Damaged(EndRecord), &Damaged(EndRecord), 10_000, 3).unwrap_err();
-    let Case::TwoAllowances(case) = &difference.case else {
-        panic!("{difference}");
-    };
-    assert!(case.unfolding.plan.len() <= 3, "{difference}");
-    assert_eq!((case.unfolding.allowance, case.larger), (1, 2));
-    assert_eq!((case.list.len(), case.checked), (3, false), "{difference}");
-    // Compared with the reference, one of the two calls is enough.
-    let damaged = (0..200).map(|seed| compare(&Reference, &Damaged(EndMore), 10_000, seed));
-    let difference = damaged.filter_map(Result::err).find(|difference| {
-        let drawn = Case::draw(difference.seed);
-        matches!(drawn, Case::TwoAllowances(_))
-    });
-    let difference = difference.unwrap();
-    assert!(matches!(difference.case, Case::Unfold(_)), "{difference}");
-    assert!(!difference.to_string().contains("breaks"), "{difference}");
 }
 
 #[test]
@@ -1526,14 +1391,14 @@ fn a_text_is_made_small_and_printed() {
     assert!(printed.contains("  text: \"("), "{printed}");
     assert!(printed.contains(" < "), "{printed}");
     // A fault of a long text needs few of its characters.
-    let difference = compare(&Reference, &Damaged(TextZero), 10_000, 15).unwrap_err();
+    let difference = compare(&Reference, &Damaged(TextZero), 10_000, 6).unwrap_err();
     let printed = difference.to_string();
     assert!(printed.contains("  text: \"00\"\n"), "{printed}");
 }
 
 #[test]
 fn a_walk_is_made_small_and_printed() {
-    let difference = compare(&Reference, &Damaged(WalkBranch), 10_000, 94).unwrap_err();
+    let difference = compare(&Reference, &Damaged(WalkBranch), 10_000, 26).unwrap_err();
     let Case::Walk(case) = &difference.case else {
         panic!("{difference}");
     };
@@ -1551,7 +1416,7 @@ fn a_walk_is_made_small_and_printed() {
         "{printed}"
     );
     // A list of messages needs one; each call is printed.
-    let difference = compare(&Reference, &Damaged(WalkSum), 10_000, 1).unwrap_err();
+    let difference = compare(&Reference, &Damaged(WalkSum), 10_000, 24).unwrap_err();
     let Case::Messages(case) = &difference.case else {
         panic!("{difference}");
     };
@@ -1566,7 +1431,7 @@ fn a_walk_is_made_small_and_printed() {
 
 #[test]
 fn a_precedence_is_made_small_and_printed() {
-    let difference = compare(&Reference, &Damaged(BeforeGreatest), 10_000, 1).unwrap_err();
+    let difference = compare(&Reference, &Damaged(BeforeGreatest), 10_000, 9).unwrap_err();
     let Case::Precedes(case) = &difference.case else {
         panic!("{difference}");
     };
@@ -1577,7 +1442,7 @@ fn a_precedence_is_made_small_and_printed() {
     assert!(printed.contains("  first: number 0, values [0, 0], place 0\n"));
     assert!(printed.contains("  second: number 0, values [0, 1], place 0\n"));
     // A plan as long as can be needs few of its words.
-    let difference = compare(&Reference, &Damaged(BeforeEnd), 10_000, 34).unwrap_err();
+    let difference = compare(&Reference, &Damaged(BeforeEnd), 10_000, 58).unwrap_err();
     let (drawn, small) = (Case::draw(difference.seed), &difference.case);
     let (Case::Precedes(drawn), Case::Precedes(small)) = (&drawn, small) else {
         panic!("{difference}");
@@ -1588,7 +1453,7 @@ fn a_precedence_is_made_small_and_printed() {
 #[test]
 fn a_writing_is_made_small_and_printed() {
     // A plan of many blocks needs one of its words, and the area stays one byte too short.
-    let difference = compare(&Reference, &Damaged(WriteShort), 10_000, 90).unwrap_err();
+    let difference = compare(&Reference, &Damaged(WriteShort), 10_000, 14).unwrap_err();
     let (drawn, small) = (Case::draw(difference.seed), &difference.case);
     let (Case::WriteStation(drawn), Case::WriteStation(small)) = (&drawn, small) else {
         panic!("{difference}");
@@ -1608,7 +1473,7 @@ fn a_writing_is_made_small_and_printed() {
 
 #[test]
 fn a_round_trip_is_made_small_and_printed() {
-    let difference = compare(&Reference, &Damaged(WriteRoom), 10_000, 3).unwrap_err();
+    let difference = compare(&Reference, &Damaged(WriteRoom), 10_000, 2).unwrap_err();
     let Case::Reread(case) = &difference.case else {
         panic!("{difference}");
     };
@@ -1621,7 +1486,7 @@ fn a_round_trip_is_made_small_and_printed() {
     assert!(printed.contains("write_station, then read_station\n"));
     assert!(printed.contains("  second: number 74, "), "{printed}");
     // Of a file of 22 blocks six are enough.
-    let difference = compare(&Reference, &Damaged(WriteRoom), 10_000, 178).unwrap_err();
+    let difference = compare(&Reference, &Damaged(WriteRoom), 10_000, 13).unwrap_err();
     let (drawn, small) = (Case::draw(difference.seed), &difference.case);
     let (Case::Rewrite(drawn), Case::Rewrite(small)) = (&drawn, small) else {
         panic!("{difference}");
@@ -1635,7 +1500,7 @@ fn a_round_trip_is_made_small_and_printed() {
 
 #[test]
 fn a_form_is_made_small_and_printed() {
-    let difference = compare(&Reference, &Damaged(FormUnsorted), 10_000, 5).unwrap_err();
+    let difference = compare(&Reference, &Damaged(FormUnsorted), 10_000, 11).unwrap_err();
     let Case::FixForm(case) = &difference.case else {
         panic!("{difference}");
     };
@@ -1647,7 +1512,7 @@ fn a_form_is_made_small_and_printed() {
     assert!(printed.contains("  second: number 0, values [3, 0], place 0\n    [2, 1, 64]\n"));
     // Of a plan as long as can be few words are enough, and of two calls one: three summands for
     // the groups of a sum.
-    for seed in [334, 364, 138] {
+    for seed in [24, 17, 51] {
         let difference = compare(&Reference, &Damaged(FormRight), 10_000, seed).unwrap_err();
         let drawn = match Case::draw(difference.seed) {
             Case::FixForm(case) => case,
@@ -2450,109 +2315,4 @@ fn forms_come_again() {
 fn made(outcome: &Outcome) -> Option<&[u8]> {
     let answer = outcome.answer;
     (answer.number == 0).then(|| &outcome.lent[0][..answer.values[0]])
-}
-
-/// What an unfolding with two allowances shows.
-fn kinds_of_two_allowances(case: &TwoAllowancesCase, outcome: &Outcome) -> Vec<String> {
-    let first = &case.unfolding;
-    let ended = Ended::of(first.tables.clone(), first.plan.clone()).unwrap();
-    let (steps, list, longest) = (ended.whole.steps, first.list.len(), ended.whole.longest);
-    let room = room(&first.a, &first.b);
-    let numbers = [&outcome.before[0], outcome].map(|outcome| outcome.answer.number);
-    let mut kinds = vec![format!("{} then {}", numbers[0], numbers[1])];
-    let near = |what: &str, given: usize, needed: usize| {
-        let side = match given.checked_sub(needed) {
-            None if given + 1 == needed => "one less",
-            None => "less",
-            Some(0) => "just enough",
-            Some(1) => "one more",
-            Some(_) => "more",
-        };
-        format!("{what}, {side}")
-    };
-    if steps > 0 {
-        kinds.push(near("allowance", first.allowance as usize, steps));
-        kinds.push(near("second allowance", case.larger as usize, steps));
-        kinds.push(near("list", list, 3 * steps));
-    }
-    kinds.push(near("areas", room, longest));
-    let largest = case.larger == u32::MAX && numbers[0] == 0;
-    let said = [
-        ("finished, then the largest allowance", largest),
-        (
-            "the longest plan of all",
-            longest == 16_384 && numbers[1] == 0,
-        ),
-        (
-            "a longer plan than any",
-            longest == 16_385 && room == 16_384,
-        ),
-        (
-            "the start plan is the longest",
-            longest == first.plan.len() && steps > 0,
-        ),
-        ("no step", steps == 0),
-        ("a hundred steps", steps >= 100 && numbers[1] == 0),
-        ("checked", case.checked && numbers[1] == 0),
-        ("other bytes before", list > 9 && first.list != case.list),
-    ];
-    let met = said.into_iter().filter(|&(_, here)| here);
-    kinds.extend(met.map(|(kind, _)| kind.to_string()));
-    kinds
-}
-
-#[test]
-fn every_kind_of_two_allowances_is_drawn() {
-    let mut met = BTreeMap::new();
-    for seed in 0..60_000 {
-        let case = Case::draw(seed);
-        if let Case::TwoAllowances(two) = &case {
-            for kind in kinds_of_two_allowances(two, &case.run(&Reference)) {
-                *met.entry(kind).or_insert(0) += 1;
-            }
-        }
-    }
-    let kinds: Vec<&str> = met.keys().map(String::as_str).collect();
-    assert_eq!(
-        kinds,
-        [
-            "0 then 0",
-            "15 then 15",
-            "34 then 0",
-            "34 then 34",
-            "34 then 35",
-            "34 then 36",
-            "35 then 35",
-            "36 then 36",
-            "a hundred steps",
-            "a longer plan than any",
-            "allowance, just enough",
-            "allowance, less",
-            "allowance, more",
-            "allowance, one less",
-            "allowance, one more",
-            "areas, just enough",
-            "areas, less",
-            "areas, more",
-            "areas, one less",
-            "areas, one more",
-            "checked",
-            "finished, then the largest allowance",
-            "list, just enough",
-            "list, less",
-            "list, more",
-            "list, one less",
-            "list, one more",
-            "no step",
-            "other bytes before",
-            "second allowance, just enough",
-            "second allowance, less",
-            "second allowance, more",
-            "second allowance, one less",
-            "second allowance, one more",
-            "the longest plan of all",
-            "the start plan is the longest"
-        ]
-    );
-    assert!(met.values().all(|&count| count > 5), "{met:?}");
 }

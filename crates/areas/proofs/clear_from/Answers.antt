@@ -1,6 +1,5 @@
 -- `areas::clear_from` meets its contract. The invariant: what stands before place i is the kept part and then zeros. Assumes nothing.
 use native.Mathlib.Omega.{arith}
-use Prim.Native.Nat.{◌-◌}
 use mathlib.Core.Path.{refl}
 use lib.ListN.{length-set}
 use Rattle.areas.proofs.Area.{zero_none, zero_more, zero_all}

@@ -1,6 +1,5 @@
 -- `areas::copy_in` meets its contract. The invariant: the area with the first i words copied. Assumes nothing.
 use native.Mathlib.Omega.{arith}
-use Prim.Native.Nat.{◌-◌}
 use mathlib.Core.Path.{refl, ◌∙◌}
 use lib.ListN.{length-set}
 use lib.Seq.{paste-zero}

@@ -1,6 +1,6 @@
 -- `plans::basic_words` meets its contract. The invariant: scanning the words left, with the kinds of the subplans that wait, answers for the plan.
 -- The measure is what is left of the plan.
-use Prim.Native.Nat.{ℕ, ◌-◌}
+use Prim.Native.Nat.{ℕ}
 use native.Mathlib.Omega.{arith}
 use mathlib.Core.Path.{sym, ◌∙◌}
 use lib.ListN.{length-replicate}

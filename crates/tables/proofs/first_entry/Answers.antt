@@ -1,11 +1,8 @@
 -- A search over the rows of a part, and in each over its columns. The invariants: what is found from this row or this column on, and
 -- else in the rows behind, is what is found at all.
-use Prim.Native.Nat.{◌-◌}
 use native.Mathlib.Omega.{arith}
 use mathlib.Core.Path.{refl, sym, ap}
-use borrow.Author.Tests.{not-true, not-false}
 use Rattle.refusals.specs.Refusal.{judged}
-use Rattle.tables.specs.Condition.{entry_meets}
 use Rattle.tables.proofs.Searching.{begins, enters, leaves, passes, fails, ends, met, unmet}
 use Rattle.tables.proofs.first_entry.Goals as goal
 

@@ -1,8 +1,6 @@
 -- A search over actions. The invariant: what is found from action a on is what is found at all.
-use Prim.Native.Nat.{◌-◌}
 use native.Mathlib.Omega.{arith}
 use mathlib.Core.Path.{sym, ap}
-use borrow.Author.Tests.{not-true, not-false}
 use Rattle.refusals.specs.Refusal.{judged}
 use Rattle.tables.specs.Judging.{least_right}
 use Rattle.tables.proofs.Searching.{begins, passes, fails, ends, met, unmet}

@@ -1,12 +1,9 @@
 -- Three nested searches. The invariants: what is found from this a, b or c on, and else in the searches around, is what is found at all.
 -- The loops are left with the triple found, or with nothing.
-use Prim.Native.Nat.{◌-◌}
 use native.Mathlib.Omega.{arith}
 use mathlib.Core.Path.{refl, sym, ◌∙◌, ap}
-use mathlib.Core.Logic.{⊎_elim}
-use borrow.Author.Tests.{not-true, not-false}
 use Rattle.refusals.specs.Refusal.{judged}
-use Rattle.tables.specs.Condition.{triple_meets, found_refusal}
+use Rattle.tables.specs.Condition.{found_refusal}
 use Rattle.tables.proofs.Searching.{begins, enters, leaves, passes, fails, ends, met, unmet}
 use Rattle.tables.proofs.first_triple.Goals.{then-a-end, else-a-end+then-loop-b-test+then-loop-c-test+then-not-triple_meets}
 use Rattle.tables.proofs.first_triple.Goals as goal

@@ -1,16 +1,11 @@
 -- `plans::scan::join_kinds` meets its contract: the tests are those of `joined_kind`.
-use native.Mathlib.Omega.{arith}
 use mathlib.Core.Path.{◌≡◌, refl}
 use Prim.Native.Nat.{ℕ}
-use mathlib.Core.List.{[], ◌∷◌}
-use mathlib.Core.Logic.{inl, inr, ⊎_elim}
-use types.Run.{OneOf}
-use denote.Enum.Declared.{tag_of}
+use mathlib.Core.Logic.{⊎_elim}
 use borrow.Author.Tests.{le-leb, lt-leb, eq-eqb, ne_eqb}
 use Rattle.plans.specs.declared.Binary.{Binary}
 use Rattle.plans.specs.declared.Binary.TheVariants.{Choice, Sequence, Merge, LeftMerge, CommunicationMerge, Unless}
 use Rattle.plans.specs.Kinds.{joined_kind}
-use Rattle.plans.specs.contracts.Binary.{the_type}
 use Rattle.plans.proofs.scan.join_kinds.Goals as goal
 
 -- what the code's test of the variant says
