@@ -163,4 +163,4 @@ pub backward_of : (t : Tables) (k p c : ℕ) (carried left starts right old left
     → Stepping t (step_back t k p carried (plan_in left right s)) c left starts right old left' starts' right' old' s r
     → Stepping t (step_of t (backward (record { law = k; place = p }) carried) (plan_in left right s)) c left starts right old left' starts' right' old' s r
 unfolding step_of
-backward_of t k p c carried left starts right old left' starts' right' old' s r h = h
+backward_of t k p c taken left starts right old left' starts' right' old' s r h = h

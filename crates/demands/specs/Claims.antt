@@ -16,7 +16,7 @@ use Rattle.checking.specs.declared.Checked.TheVariants.{Accepted, TurnedBack}
 use Rattle.checking.specs.Checking.{check_outcome, CheckOutcome}
 use Rattle.laws.specs.Laws.{highest_law}
 use Rattle.laws.specs.Fits.{FitsAt, FitsBackAt}
-use Rattle.demands.specs.Reports.{UnfoldGiven, Reports, own_rewriting, reached_in, Stops}
+pub use Rattle.demands.specs.Reports.{UnfoldGiven, unfold_given, Reports, finished, stopped, own_rewriting, reached_in, Stops, allowance_spent, list_full, next_too_long}
 use Rattle.demands.specs.Allowance.{steps_needed, end_plan, EndClaims, AllowanceClaims}
 use Rattle.demands.specs.Former.{ForwardList, former_outcome}
 use Rattle.demands.specs.Reversed.{reversed}

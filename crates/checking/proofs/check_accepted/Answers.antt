@@ -1,19 +1,30 @@
 -- `check_accepted` meets its contract: the plan loaded is ready for the replay, what the replay leaves can be stored, and the end is compared.
-use Prim.Native.Nat.{◌-◌, ◌≤◌}
+use Prim.Native.Nat.{ℕ, ◌-◌, ◌≤◌}
 use native.Mathlib.Omega.{arith}
 use mathlib.Core.Path.{◌≡◌, refl, sym, ◌∙◌, ap}
-use mathlib.Core.List.{◌++◌}
+use mathlib.Core.List.{List, ◌++◌}
 use lib.ListN.{take, drop}
 use lib.Seq.{length-take-le}
+use Rattle.tables.specs.Tables.{Tables}
 use Rattle.areas.specs.Storing.{Stored}
 use Rattle.areas.proofs.Storing.{capacity-a, capacity-b, capacity-most, kept_storable}
 use Rattle.buffer.specs.declared.State.{State}
 use Rattle.buffer.proofs.Whole.{held_gap, whole_parts}
-use Rattle.steps.specs.Working.{plan_in}
+use Rattle.steps.specs.Working.{plan_in, Working}
 use Rattle.steps.proofs.Loading.{loaded-plan, loaded-before, loaded-working, loaded-kept, lawful}
 use Rattle.checking.proofs.Settling.{settle_stopped, settle_same, settle_differs}
 use Rattle.areas.specs.Area.{most_words}
+use Rattle.checking.proofs.check_accepted.Goals.{After-store-size}
 use Rattle.checking.proofs.check_accepted.Goals as goal
+
+-- what is read and what is left are the plan
+parts : {t : Tables} {left starts right : List ℕ} {s : State} → Working t left starts right s → take s.read left ++ take (most_words - s.rest) (drop s.rest right) ≡ plan_in left right s
+parts {t} {left} {starts} {right} {s} w = rw w.held.right_long at (whole_parts left right s.read s.rest (held_gap w.held))
+
+-- what is stored is the plan that the replay leaves
+stored : (c : After-store-size)
+    → Stored c.args.a.now c.args.b.now c.store-size.new.a c.store-size.new.b c.replay_on-last.result.state.made (plan_in c.replay_on-last.new.left c.replay_on-last.new.right c.replay_on-last.result.state) c.replay_on-last.new.old c.store-size.result
+stored c = rw (parts c.replay_on-last.ensures.working) at c.store-size.ensures
 
 pub load-state-requires : goal.load-state-requires
 load-state-requires c = (omega (arith, c.requires.2, c.requires.1, capacity-most c.args.a.now c.args.b.now), refl)
@@ -47,47 +58,29 @@ slice_bounds-store-start c = let h = c.replay_on-last.ensures.working.held in om
 
 pub store-size-requires : goal.store-size-requires
 store-size-requires c =
-    let parts : take c.replay_on-last.result.state.read c.replay_on-last.new.left ++ take (most_words - c.replay_on-last.result.state.rest) (drop c.replay_on-last.result.state.rest c.replay_on-last.new.right) ≡ plan_in c.replay_on-last.new.left c.replay_on-last.new.right c.replay_on-last.result.state = let h = c.replay_on-last.ensures.working.held in
-    rw h.right_long at (whole_parts c.replay_on-last.new.left c.replay_on-last.new.right c.replay_on-last.result.state.read c.replay_on-last.result.state.rest (held_gap h)) in
-    rw parts (kept_storable c.args.a.now c.args.b.now _ _ _ _ c.requires.1 c.replay_on-last.ensures.kept)
+    rw (parts c.replay_on-last.ensures.working) (kept_storable c.args.a.now c.args.b.now _ _ _ _ c.requires.1 c.replay_on-last.ensures.kept)
 
 pub returns-then-number-ne0 : goal.returns-then-number-ne0
 returns-then-number-ne0 c =
-    let parts : take c.replay_on-last.result.state.read c.replay_on-last.new.left ++ take (most_words - c.replay_on-last.result.state.rest) (drop c.replay_on-last.result.state.rest c.replay_on-last.new.right) ≡ plan_in c.replay_on-last.new.left c.replay_on-last.new.right c.replay_on-last.result.state = let h = c.replay_on-last.ensures.working.held in
-    rw h.right_long at (whole_parts c.replay_on-last.new.left c.replay_on-last.new.right c.replay_on-last.result.state.read c.replay_on-last.result.state.rest (held_gap h)) in
-    -- what is stored is the plan that the replay leaves
-    let stored : Stored c.args.a.now c.args.b.now c.store-size.new.a c.store-size.new.b c.replay_on-last.result.state.made (plan_in c.replay_on-last.new.left c.replay_on-last.new.right c.replay_on-last.result.state) c.replay_on-last.new.old c.store-size.result = rw parts at c.store-size.ensures in
     let l = c.load-state.ensures in
-    settle_stopped _ _ _ _ _ _ _ _ _ _ _ _ _ _ _ _ _ (loaded-plan _ _ _ _ l.0 l.1) (loaded-before _ _ _ _ l.0 l.1 _) c.replay_on-last.ensures stored
+    settle_stopped _ _ _ _ _ _ _ _ _ _ _ _ _ _ _ _ _ (loaded-plan _ _ _ _ l.0 l.1) (loaded-before _ _ _ _ l.0 l.1 _) c.replay_on-last.ensures (stored (goal.at.returns-then-number-ne0 c).After-store-size)
     c.if-number-ne0.true
 
 pub reached-requires : goal.reached-requires
 reached-requires c =
-    let parts : take c.replay_on-last.result.state.read c.replay_on-last.new.left ++ take (most_words - c.replay_on-last.result.state.rest) (drop c.replay_on-last.result.state.rest c.replay_on-last.new.right) ≡ plan_in c.replay_on-last.new.left c.replay_on-last.new.right c.replay_on-last.result.state = let h = c.replay_on-last.ensures.working.held in
-    rw h.right_long at (whole_parts c.replay_on-last.new.left c.replay_on-last.new.right c.replay_on-last.result.state.read c.replay_on-last.result.state.rest (held_gap h)) in
-    -- what is stored is the plan that the replay leaves
-    let stored : Stored c.args.a.now c.args.b.now c.store-size.new.a c.store-size.new.b c.replay_on-last.result.state.made (plan_in c.replay_on-last.new.left c.replay_on-last.new.right c.replay_on-last.result.state) c.replay_on-last.new.old c.store-size.result = rw parts at c.store-size.ensures in
     let short = c.replay_on-last.ensures.kept.short in (
-      omega (arith, stored.plan_size, short, c.requires.1, capacity-a c.args.a.now c.args.b.now, c.store-size.auto.a),
-      omega (arith, stored.plan_size, short, c.requires.1, capacity-b c.args.a.now c.args.b.now, c.store-size.auto.b),
+      omega (arith, (stored (goal.at.reached-requires c).After-store-size).plan_size, short, c.requires.1, capacity-a c.args.a.now c.args.b.now, c.store-size.auto.a),
+      omega (arith, (stored (goal.at.reached-requires c).After-store-size).plan_size, short, c.requires.1, capacity-b c.args.a.now c.args.b.now, c.store-size.auto.b),
     )
 
 pub returns-then-reached : goal.returns-then-reached
 returns-then-reached c =
-    let parts : take c.replay_on-last.result.state.read c.replay_on-last.new.left ++ take (most_words - c.replay_on-last.result.state.rest) (drop c.replay_on-last.result.state.rest c.replay_on-last.new.right) ≡ plan_in c.replay_on-last.new.left c.replay_on-last.new.right c.replay_on-last.result.state = let h = c.replay_on-last.ensures.working.held in
-    rw h.right_long at (whole_parts c.replay_on-last.new.left c.replay_on-last.new.right c.replay_on-last.result.state.read c.replay_on-last.result.state.rest (held_gap h)) in
-    -- what is stored is the plan that the replay leaves
-    let stored : Stored c.args.a.now c.args.b.now c.store-size.new.a c.store-size.new.b c.replay_on-last.result.state.made (plan_in c.replay_on-last.new.left c.replay_on-last.new.right c.replay_on-last.result.state) c.replay_on-last.new.old c.store-size.result = rw parts at c.store-size.ensures in
     let l = c.load-state.ensures in
-    settle_same _ _ _ _ _ _ _ _ _ _ _ _ _ _ _ _ _ (loaded-plan _ _ _ _ l.0 l.1) (loaded-before _ _ _ _ l.0 l.1 _) c.replay_on-last.ensures stored
+    settle_same _ _ _ _ _ _ _ _ _ _ _ _ _ _ _ _ _ (loaded-plan _ _ _ _ l.0 l.1) (loaded-before _ _ _ _ l.0 l.1 _) c.replay_on-last.ensures (stored (goal.at.returns-then-reached c).After-store-size)
     c.if-number-ne0.false (sym c.reached.ensures ∙ c.if-reached.true)
 
 pub returns : goal.returns
 returns c =
-    let parts : take c.replay_on-last.result.state.read c.replay_on-last.new.left ++ take (most_words - c.replay_on-last.result.state.rest) (drop c.replay_on-last.result.state.rest c.replay_on-last.new.right) ≡ plan_in c.replay_on-last.new.left c.replay_on-last.new.right c.replay_on-last.result.state = let h = c.replay_on-last.ensures.working.held in
-    rw h.right_long at (whole_parts c.replay_on-last.new.left c.replay_on-last.new.right c.replay_on-last.result.state.read c.replay_on-last.result.state.rest (held_gap h)) in
-    -- what is stored is the plan that the replay leaves
-    let stored : Stored c.args.a.now c.args.b.now c.store-size.new.a c.store-size.new.b c.replay_on-last.result.state.made (plan_in c.replay_on-last.new.left c.replay_on-last.new.right c.replay_on-last.result.state) c.replay_on-last.new.old c.store-size.result = rw parts at c.store-size.ensures in
     let l = c.load-state.ensures in
-    settle_differs _ _ _ _ _ _ _ _ _ _ _ _ _ _ _ _ _ (loaded-plan _ _ _ _ l.0 l.1) (loaded-before _ _ _ _ l.0 l.1 _) c.replay_on-last.ensures stored
+    settle_differs _ _ _ _ _ _ _ _ _ _ _ _ _ _ _ _ _ (loaded-plan _ _ _ _ l.0 l.1) (loaded-before _ _ _ _ l.0 l.1 _) c.replay_on-last.ensures (stored (goal.at.returns c).After-store-size)
     c.if-number-ne0.false (sym c.reached.ensures ∙ c.if-reached.false)

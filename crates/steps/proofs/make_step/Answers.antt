@@ -13,7 +13,20 @@ use Rattle.steps.proofs.Making.{plan-long}
 use Rattle.laws.proofs.Stepping.{step_past, step-alike}
 use Rattle.steps.proofs.Answering.{answer-past, answer-fails, answer-long, answer-done}
 use Rattle.steps.proofs.Trying.{ready, step_none, step_some}
+use Rattle.steps.proofs.make_step.Goals.{Else-not-law_fits}
 use Rattle.steps.proofs.make_step.Goals as goal
+
+-- what the step gives, where the right side is put in
+made : (c : Else-not-law_fits)
+    → step c.args.tables.now c.args.law c.args.place (plan_in c.args.left.now c.args.right.now c.args.state)
+    ≡ some
+    (next_with (side_here c.args.tables.now c.args.law c.seek-there.new.left c.law_fits.new.from c.law_fits.new.to c.seek-there.result)
+    c.seek-there.new.left c.seek-there.new.starts c.seek-there.new.right c.seek-there.result)
+made c =
+    let d = c.seek-there in
+    let a = c.args in
+    let l = c.law_fits in
+    step_some a.tables.now a.law a.place a.left.now a.starts.now a.right.now a.state a.n c.requires.n_value.0 d.new.left d.new.starts d.new.right d.result d.ensures.0 d.ensures.1 l.new.from l.new.to l.result l.ensures.tried (ap not c.if-not-law_fits.false)
 
 pub overflow_sub-size : goal.overflow_sub-size
 overflow_sub-size c = c.requires.working.0.held.rest_in
@@ -81,38 +94,18 @@ put_side-requires c =
 
 pub returns-in-Step : goal.returns-in-Step
 returns-in-Step c =
-    -- what the step gives, where the right side is put in
-    let made : step c.args.tables.now c.args.law c.args.place
-    (plan_in c.args.left.now c.args.right.now c.args.state)
-    ≡ some
-    (next_with
-    (side_here c.args.tables.now c.args.law c.seek-there.new.left c.law_fits.new.from c.law_fits.new.to c.seek-there.result)
-    c.seek-there.new.left c.seek-there.new.starts c.seek-there.new.right c.seek-there.result) = let d = c.seek-there in
-    let a = c.args in
-    let l = c.law_fits in
-    step_some a.tables.now a.law a.place a.left.now a.starts.now a.right.now a.state a.n c.requires.n_value.0 d.new.left d.new.starts d.new.right d.result d.ensures.0 d.ensures.1 l.new.from l.new.to l.result l.ensures.tried (ap not c.if-not-law_fits.false) in
     let d = c.seek-there in
     let a = c.args in
     let p = c.put_side in
-    let e = made in
+    let e = made (goal.at.returns-in-Step c).Else-not-law_fits in
     answer-done a.tables.now _ a.limit a.left.now a.starts.now a.right.now a.old.now a.state d.new.left d.new.starts d.new.right d.result d.ensures.0
     _ e p.new.right p.new.old p.result p.ensures _ c.in-Step.is (omega (arith, d.ensures.1)) c.requires.limit_le_most_words.0 c.requires.working.1
     (step-alike a.tables.now c.requires.n_value.1 a.law a.place _ _ c.requires.working.0.accepted e).1
 
 pub returns-in-TooLong : goal.returns-in-TooLong
 returns-in-TooLong c =
-    -- what the step gives, where the right side is put in
-    let made : step c.args.tables.now c.args.law c.args.place
-    (plan_in c.args.left.now c.args.right.now c.args.state)
-    ≡ some
-    (next_with
-    (side_here c.args.tables.now c.args.law c.seek-there.new.left c.law_fits.new.from c.law_fits.new.to c.seek-there.result)
-    c.seek-there.new.left c.seek-there.new.starts c.seek-there.new.right c.seek-there.result) = let d = c.seek-there in
-    let a = c.args in
-    let l = c.law_fits in
-    step_some a.tables.now a.law a.place a.left.now a.starts.now a.right.now a.state a.n c.requires.n_value.0 d.new.left d.new.starts d.new.right d.result d.ensures.0 d.ensures.1 l.new.from l.new.to l.result l.ensures.tried (ap not c.if-not-law_fits.false) in
     let d = c.seek-there in
     let a = c.args in
     let p = c.put_side in
     answer-long a.tables.now _ a.limit a.left.now a.starts.now a.right.now a.old.now a.state d.new.left d.new.starts d.new.right d.result d.ensures.0
-    _ made p.new.right p.new.old p.result p.ensures c.in-TooLong.is
+    _ (made (goal.at.returns-in-TooLong c).Else-not-law_fits) p.new.right p.new.old p.result p.ensures c.in-TooLong.is
