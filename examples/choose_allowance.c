@@ -3,7 +3,7 @@
  * finishes, and a larger allowance changes nothing more. It is then lent a list and areas that are just long enough, a list a byte shorter, and areas a
  * byte shorter: there the largest allowance does not help. Build and run in the repository's root:
  *
- *   rt staticlib aberulwy_c
+ *   tools/build
  *   cc -Iinclude examples/choose_allowance.c target/staticlib/libaberulwy_c.a -o target/choose_allowance && target/choose_allowance
  */
 #include "aberulwy.h"

@@ -1,7 +1,7 @@
 /* Weight before photograph: can the photograph of the next coin (9) overtake the weight (3)? Each station file of examples/bench is read and unfolded, and
  * the plan reached is asked; under no, the actions on the path to the place are shown. Build and run in the repository's root:
  *
- *   rt staticlib aberulwy_c
+ *   tools/build
  *   cc -Iinclude examples/find_overtaking.c target/staticlib/libaberulwy_c.a -o target/find_overtaking && target/find_overtaking
  */
 #include "aberulwy.h"

@@ -3,7 +3,7 @@
  * between two of them made when the balance settles, and not after it. Each plan is brought to its fixed form, and the form is compared with that of the
  * plan unfolded. Build and run in the repository's root:
  *
- *   rt staticlib aberulwy_c
+ *   tools/build
  *   cc -Iinclude examples/fix_form.c target/staticlib/libaberulwy_c.a -o target/fix_form && target/fix_form
  */
 #include "aberulwy.h"

@@ -4,7 +4,7 @@
  * unfolded. Both lists laid end to end are one rewriting, from the one unfolded plan to the other: the checker judges it, and the fixed forms of the two
  * plans are compared. At last the rewriting is damaged. Build and run in the repository's root:
  *
- *   rt staticlib aberulwy_c
+ *   tools/build
  *   cc -Iinclude examples/hand_derivation.c target/staticlib/libaberulwy_c.a -o target/hand_derivation && target/hand_derivation
  */
 #include "aberulwy.h"

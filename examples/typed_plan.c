@@ -1,7 +1,7 @@
 /* The bench of examples/bench with a crusted coin and the hub that waits, its plan typed in signs: with two slips, each shown at its place, then
  * right; then it is unfolded. Build and run:
  *
- *   rt staticlib aberulwy_c
+ *   tools/build
  *   cc -Iinclude examples/typed_plan.c target/staticlib/libaberulwy_c.a -o target/typed_plan && target/typed_plan
  */
 #include "aberulwy.h"

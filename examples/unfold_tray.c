@@ -1,6 +1,6 @@
 /* Unfolds the first trial tray, `1 2 66` (action 1 merged with action 2), and prints the plan reached and the steps. Build and run:
  *
- *   rt staticlib aberulwy_c
+ *   tools/build
  *   cc -Iinclude examples/unfold_tray.c target/staticlib/libaberulwy_c.a -o target/unfold_tray && target/unfold_tray
  */
 #include "aberulwy.h"

@@ -1,7 +1,7 @@
 /* A tray with a crusted coin, followed message by message: the weight (3) is late, and is seen after the photograph of the next coin (9). The plans
  * are those that examples/bench unfolds to, for the hasty hub and for the hub that waits. Build and run:
  *
- *   rt staticlib aberulwy_c
+ *   tools/build
  *   cc -Iinclude examples/walk_plan.c target/staticlib/libaberulwy_c.a -o target/walk_plan && target/walk_plan
  */
 #include "aberulwy.h"

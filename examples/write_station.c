@@ -1,7 +1,7 @@
 /* A plan typed in signs becomes a station file: the bench of examples/bench with a crusted coin, with the hasty hub and with the hub that waits. Each file
  * written is compared with the one stored there, and read again. Build and run in the repository's root:
  *
- *   rt staticlib aberulwy_c
+ *   tools/build
  *   cc -Iinclude examples/write_station.c target/staticlib/libaberulwy_c.a -o target/write_station && target/write_station
  */
 #include "aberulwy.h"

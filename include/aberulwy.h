@@ -12,11 +12,11 @@
  *
  * Stack: allow 640 KiB for aberulwy_list_station, 512 KiB for aberulwy_unfold and aberulwy_unfold_checked, 256 KiB for aberulwy_fix_form, 192 KiB for
  * aberulwy_read_text and aberulwy_check_rewriting, 128 KiB for aberulwy_walk, 96 KiB for aberulwy_precedes, and 64 KiB for each other call. Measured in
- * threads on x86-64 Linux, aberulwy_list_station needs 486 KiB, aberulwy_unfold and aberulwy_unfold_checked 354, aberulwy_fix_form 198, aberulwy_read_text
- * 131 (for a text 200 brackets deep; no text goes deeper), aberulwy_check_rewriting 121 (for a step from right to left with a long left side), aberulwy_walk
- * 86, aberulwy_precedes 54, and the others at most 32. Nothing is allocated.
+ * threads on x86-64 Linux with the older kit, rattle-kit-5b-plain, aberulwy_list_station needs 486 KiB, aberulwy_unfold and aberulwy_unfold_checked 354,
+ * aberulwy_fix_form 198, aberulwy_read_text 131 (for a text 200 brackets deep; no text goes deeper), aberulwy_check_rewriting 121 (for a step from right
+ * to left with a long left side), aberulwy_walk 86, aberulwy_precedes 54, and the others at most 32. Nothing is allocated.
  *
- * The archive is made by `rt staticlib aberulwy_c`: target/staticlib/libaberulwy_c.a.
+ * The archive is made by tools/build: target/staticlib/libaberulwy_c.a.
  */
 #ifndef ABERULWY_H
 #define ABERULWY_H
@@ -24,7 +24,7 @@
 #include <stddef.h>
 #include <stdint.h>
 
-#define ABERULWY_VERSION "0.12.0"
+#define ABERULWY_VERSION "0.13.0"
 
 #ifdef __cplusplus
 extern "C" {

@@ -1,8 +1,8 @@
 //! Links the proved archive, `libaberulwy_c.a`.
 //!
 //! It is looked for in the folder that the environment variable `ABERULWY_ARCHIVE_DIR`
-//! names (an absolute path), else in `target/staticlib` of the repository, where `rt
-//! staticlib aberulwy_c` writes it.
+//! names (an absolute path), else in `target/staticlib` of the repository, where `tools/build`
+//! writes it.
 
 use std::env;
 use std::path::PathBuf;
@@ -18,7 +18,7 @@ fn main() {
     let archive = folder.join("libaberulwy_c.a");
     if !archive.is_file() {
         println!(
-            "cargo::warning=no {}: run `rt staticlib aberulwy_c` in the repository's root, or set {FOLDER_VARIABLE} to the archive's folder, an absolute path",
+            "cargo::warning=no {}: run `tools/build` in the repository's root, or set {FOLDER_VARIABLE} to the archive's folder, an absolute path",
             archive.display()
         );
     }

@@ -67,10 +67,10 @@
 //!
 //! # Linking
 //!
-//! The archive `libaberulwy_c.a` is written by `rt staticlib aberulwy_c` in the repository's
-//! root. It is found in `target/staticlib` there, or in the folder that `ABERULWY_ARCHIVE_DIR`
-//! names, an absolute path. `examples/unfold_station.rs` is a small program around these calls,
-//! and `rust/README.md` says what a program of one's own needs.
+//! The archive `libaberulwy_c.a` is written by `tools/build` in the repository's root. It is found
+//! in `target/staticlib` there, or in the folder that `ABERULWY_ARCHIVE_DIR` names, an absolute
+//! path. `examples/unfold_station.rs` is a small program around these calls, and `rust/README.md`
+//! says what a program of one's own needs.
 
 #![deny(unsafe_code)]
 #![warn(missing_docs)]

@@ -120,8 +120,8 @@ impl Reader<'_> {
         }
     }
 
-    /// Words with a hyphen, and fields' names, right behind a record of claims are fields of it;
-    /// behind a clause and a colon, of some such record.
+    /// Words with a hyphen or a low line, and fields' names, right behind a record of claims are
+    /// fields of it; behind a clause and a colon, of some such record.
     fn fields(&mut self, tokens: &[Token]) {
         let (all, mut record) = (self.declared, None);
         for (i, token) in tokens.iter().enumerate() {
@@ -131,7 +131,7 @@ impl Reader<'_> {
                     let clause = matches!(&tokens[i - 1], Word(w) if all.is_clause("", w));
                     record = Some("").filter(|_| clause);
                 }
-                Word(word) if word.contains('-') || all.is_field("", word) => {
+                Word(word) if word.contains(['-', '_']) || all.is_field("", word) => {
                     if let Some(of) = record.filter(|of| !all.is_field(of, word)) {
                         let of = if of.is_empty() { "any claims" } else { of };
                         self.find(format!("{word} is no field of {of}"));
@@ -179,8 +179,8 @@ mod tests {
 | definition | contract |
 |---|---|
 | x\\|y `tables` Lawful `Lawful`; `laws` Laws, Fits `laws`, `Fits` | `whole` of each call; `unfold` whole, claims |
-| `UnfoldClaims` answered, reached-alike (31) | claims of `unfold`; `aberulwy::inner`; no `requires` |
-| `law_4`, `laws/law_4`, `end E`, `0`, `specs/` | `unfold` whole: `laws`; claims: reached-alike; `…-iff` |
+| `UnfoldClaims` answered, reached_alike (31) | claims of `unfold`; `aberulwy::inner`; no `requires` |
+| `law_4`, `laws/law_4`, `end E`, `0`, `specs/` | `unfold` whole: `laws`; claims: reached_alike; `…_iff` |
 
 | crate | files in `specs/` | lines | without |
 |---|---|--:|--:|
@@ -199,20 +199,20 @@ The other 1 files, 3 lines (2 without), nobody need believe; the `must-fail/` fo
 
     #[rustfmt::skip]
     const SOURCES: [(&str, &str); 8] = [
-        ("crates/tables/specs/Lawful.antt", "-- A\npub record Lawful : Type 0 where\n  pub fit-iff : C\n"),
+        ("crates/tables/specs/Lawful.antt", "-- A\npub record Lawful : Type 0 where\n  pub fit_iff : C\n"),
         ("crates/tables/must-fail/row_n.edit", ""),
         ("crates/laws/specs/Laws.antt", "use A.{b}\n\nunfoldable pub laws : A\n"),
         ("crates/laws/specs/Fits.antt", "-- Nobody need believe this.\npub data Fits : A where\n  here : Fits\n"),
         ("crates/laws/specs/Lib.antt", "pub mod Laws\n"),
         ("crates/laws/must-fail/law_4.edit", ""),
-        ("crates/aberulwy/specs/Claims.antt", "pub record UnfoldClaims : Type 0 where\n  pub answered : A\n  pub reached-alike : A\n"),
+        ("crates/aberulwy/specs/Claims.antt", "pub record UnfoldClaims : Type 0 where\n  pub answered : A\n  pub reached_alike : A\n"),
         ("crates/aberulwy/src/lib.rt", "pub fn unfold(a: u8)\n    ensures whole { x }\n    ensures claims { y }\n{\n}\nfn inner() {}\n\
             pub fn reached()\n    ensures whole { x }\n    ensures bounded { y }\n{\n}\n"),
     ];
 
     /// What is right, what is written for it, and what is then found.
     #[rustfmt::skip]
-    const WRONG: [(&str, &str, &str); 18] = [
+    const WRONG: [(&str, &str, &str); 19] = [
         ("`Lawful`;", "`Unlawful`;", "3: `Unlawful` is declared nowhere in crates/"),
         ("`Lawful`;", "`Fits`;", "3: `Fits` is not declared in `tables` Lawful"),
         ("`Fits` |", "`Lawful` |", "3: `Lawful` is not declared in `laws` Laws, Fits"),
@@ -220,10 +220,11 @@ The other 1 files, 3 lines (2 without), nobody need believe; the `must-fail/` fo
         ("`whole` of each call", "bounded of `unfold`", "3: `unfold` has no clause bounded"),
         ("whole, claims", "whole, bounded", "3: `unfold` has no clause bounded"),
         ("claims of `unfold`", "claims of `reached`", "4: `reached` has no clause claims"),
+        ("(31)", "(31), too_long", "4: too_long is no field of UnfoldClaims"),
         ("(31)", "(31), too-long", "4: too-long is no field of UnfoldClaims"),
         ("`aberulwy::inner`", "`tables::inner`", "4: `tables::inner` is declared nowhere in crates/"),
         ("`laws/law_4`", "`tables/law_4`", "5: `tables/law_4` is declared nowhere in crates/"),
-        ("claims: reached-alike", "claims: not-alike", "5: not-alike is no field of any claims"),
+        ("claims: reached_alike", "claims: not_alike", "5: not_alike is no field of any claims"),
         ("| Lawful | 3", "| Lawful | 4", "9: there are 1 files, 3 lines, 2 without"),
         ("together | 1", "together | 2", "10: there are 1 files, 3 lines, 2 without"),
         ("Two files", "Three files", "12: there are 2 files, 6 lines, 4 without"),

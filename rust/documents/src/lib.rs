@@ -42,6 +42,9 @@ impl fmt::Display for Finding {
     }
 }
 
+/// The folders of what is built, and of the history.
+const APART: [&str; 3] = ["target", "out", ".git"];
+
 /// The files of the repository by their paths from its root, without what is built.
 #[derive(Clone, Debug, Default)]
 pub struct Repository {
@@ -60,7 +63,7 @@ impl Repository {
         for entry in fs::read_dir(folder).expect("a folder that can be read") {
             let path = entry.expect("an entry").path();
             let name = path.file_name().unwrap_or_default().to_string_lossy();
-            if path.is_dir() && name != "target" && name != ".git" {
+            if path.is_dir() && !APART.contains(&name.as_ref()) {
                 self.read(&path, &format!("{prefix}{name}/"));
             } else if path.is_file() {
                 let bytes = fs::read(&path).expect("a file that can be read");

@@ -20,10 +20,10 @@ const FILES: [&str; 6] = [
 const EXCEPTIONS: &[(&str, &str)] = &[
     ("words of Rattle", "const loop match requires self u16"),
     ("words of antt", "abbrev elim omega rw search unfoldable"),
-    ("commands", "cargo cc python3"),
-    ("a function of C, which the kit calls", "write"),
+    ("commands", "cargo cc python3 rt"),
+    ("a parameter of the grammar's definitions", "write"),
     ("an out number of a call for C", "*basic"),
-    ("a state that the kit names", "After-shared-slice-known"),
+    ("the kit of the figures", "rattle-kit-5b-plain"),
     ("a constructor behind its type", "Pattern.x"),
     (
         "files that are made",
@@ -59,7 +59,7 @@ pub fn check(repository: &Repository) -> Vec<Finding> {
 
 /// Whether this looks like a name or a path.
 fn is_name(code: &str) -> bool {
-    let sign = |c: char| c.is_ascii_alphanumeric() || "-_?*./:′".contains(c);
+    let sign = |c: char| c.is_ascii_alphanumeric() || "-_?*./:'".contains(c);
     let begins = code.starts_with(|c: char| c.is_ascii_alphabetic()) || code.contains('/');
     begins && code.len() > 1 && code.chars().all(sign)
 }
@@ -67,10 +67,17 @@ fn is_name(code: &str) -> bool {
 /// Whether this needs no declaration: a quotation, a number, a path or an exception.
 pub fn is_free(repository: &Repository, code: &str) -> bool {
     code.contains(' ')
+        || is_projection(code)
         || code.chars().all(|c| c.is_ascii_digit())
         || code.starts_with("target/")
         || exceptions().any(|name| name == code)
         || repository.has_part(code)
+}
+
+/// Whether this is a field of a variable of one letter, as clauses and proofs have them.
+fn is_projection(code: &str) -> bool {
+    let letter = |c: char| c.is_ascii_lowercase();
+    matches!(code.split_once('.'), Some((of, field)) if of.len() == 1 && of.starts_with(letter) && field.starts_with(letter))
 }
 
 /// The exceptions that no document needs.
@@ -95,7 +102,7 @@ mod tests {
 
     #[rustfmt::skip]
     const SOURCES: [(&str, &str); 5] = [
-        ("crates/tables/specs/Lawful.antt", "-- not : this\nuse lib.ListN.{getD, take}\npub record Lawful :\nf = let k : A\n"),
+        ("crates/tables/specs/Lawful.antt", "-- not : this\nuse lib.ListN.{get_or, take}\npub record Lawful :\nf = let k : A\n"),
         ("crates/plans/src/lib.rt", "// fn gone\nconst fn judge() { io::decimal(3) }\n"),
         ("crates/plans/must-fail/row_n.edit", ""),
         ("rust/aberulwy/src/lib.rs", "pub enum Ending {\n    Finished(u8),\n}\n"),
@@ -112,7 +119,8 @@ mod tests {
     #[test]
     fn names_that_are_there() {
         let text = "`Lawful` `plans` `judge` `plans::judge` `row_n` `plans/row_n` `io::decimal` `specs/Lawful` \
-            `specs/` `specs/*.antt` `Finished` `aberulwy_unfold` `take` `lib.ListN` `refused N P` `match` `x·y` `crates/NAME/specs`";
+            `specs/` `specs/*.antt` `Finished` `aberulwy_unfold` `take` `lib.ListN` `refused N P` `match` `x·y` `crates/NAME/specs` \
+            `x.now` `c.loop-read.invariant`";
         assert_eq!(check(&repository(text)), []);
     }
 
@@ -120,7 +128,7 @@ mod tests {
     fn names_that_are_not() {
         let wrong =
             "Unlawful not plan gone let plans::decimal io::binary specs/Unlawful crates/specs \
-            plans/*.antt plans/row_m tables/row_n lib.rs.rt";
+            plans/*.antt plans/row_m tables/row_n lib.rs.rt cc.args c.0 A.b";
         for name in wrong.split(' ') {
             let wanted = [format!("docs/DESIGN.md:2: `{name}` is declared nowhere")];
             let found = check(&repository(&format!("a\n| `Lawful` | `{name}` |")));
