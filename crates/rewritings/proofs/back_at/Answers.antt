@@ -8,10 +8,10 @@ pub returns-then-rewriting-at-lt5 : goal.returns-then-rewriting-at-lt5
 returns-then-rewriting-at-lt5 c = back-short c.args.rewriting.now c.args.at _ (omega arith) (omega arith)
 
 pub overflow_mul-size : goal.overflow_mul-size
-overflow_mul-size c = omega (arith, c.shared_slice_known-2-1.given (c.args.at + 3), c.shared_slice_known-2-1.given (c.args.at + 4))
+overflow_mul-size c = omega (arith, c.type_inv.rewriting (c.args.at + 3), c.type_inv.rewriting (c.args.at + 4))
 
 pub overflow_add-size : goal.overflow_add-size
-overflow_add-size c = omega (arith, c.shared_slice_known-2-1.given (c.args.at + 3), c.shared_slice_known-2-1.given (c.args.at + 4))
+overflow_add-size c = omega (arith, c.type_inv.rewriting (c.args.at + 3), c.type_inv.rewriting (c.args.at + 4))
 
 pub returns-then-rewriting-from : goal.returns-then-rewriting-from
 returns-then-rewriting-from c = back_cut c.args.rewriting.now c.args.at _ (omega arith) (omega arith) c.if-rewriting-from.true

@@ -12,10 +12,10 @@ pub returns-then-rewriting-at : goal.returns-then-rewriting-at
 returns-then-rewriting-at c = record_short _ _ (omega arith)
 
 pub overflow_mul-place : goal.overflow_mul-place
-overflow_mul-place c = omega (arith, c.shared_slice_known-4-1.given (c.args.at + 1), c.shared_slice_known-4-1.given (c.args.at + 2))
+overflow_mul-place c = omega (arith, c.type_inv.rewriting (c.args.at + 1), c.type_inv.rewriting (c.args.at + 2))
 
 pub overflow_add-place : goal.overflow_add-place
-overflow_add-place c = omega (arith, c.shared_slice_known-4-1.given (c.args.at + 1), c.shared_slice_known-4-1.given (c.args.at + 2))
+overflow_add-place c = omega (arith, c.type_inv.rewriting (c.args.at + 1), c.type_inv.rewriting (c.args.at + 2))
 
 pub returns-then-first-lt129 : goal.returns-then-first-lt129
 returns-then-first-lt129 c = record_low _ _ (omega arith) c.if-first-lt129.true

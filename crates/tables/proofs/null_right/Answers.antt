@@ -10,4 +10,4 @@ returns-then-a-eq0 c = record { whole = ⊎_elim (λ w. rw (eq-eqb c.args.a 0 w,
 
 pub returns : goal.returns
 unfolding null_right
-returns c = record { whole = rw (ne_eqb _ _ c.if-a-eq0.false, c.if-b-eq0.false-raw) }
+returns c = record { whole = rw (ne_eqb c.args.a 0 c.if-a-eq0.false, ne_eqb c.args.b 0 c.if-b-eq0.false) }

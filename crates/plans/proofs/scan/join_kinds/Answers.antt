@@ -20,7 +20,7 @@ another Unless x y e f = refl
 
 pub returns-then-right-ge-LIVE_ACTION : goal.returns-then-right-ge-LIVE_ACTION
 unfolding joined_kind
-returns-then-right-ge-LIVE_ACTION c = record { whole = rw (c.in-Choice.is, le-leb _ _ c.if-left-ge-LIVE_ACTION.true, c.if-right-ge-LIVE_ACTION.true-raw) }
+returns-then-right-ge-LIVE_ACTION c = record { whole = rw (c.in-Choice.is, le-leb 2 c.args.left c.if-left-ge-LIVE_ACTION.true, le-leb 2 c.args.right c.if-right-ge-LIVE_ACTION.true) }
 
 pub returns-else-left-ge-LIVE_ACTION : goal.returns-else-left-ge-LIVE_ACTION
 unfolding joined_kind
@@ -28,7 +28,7 @@ returns-else-left-ge-LIVE_ACTION c = record { whole = ⊎_elim (λ w. rw (c.in-C
 
 pub returns-then-right-ge-DEAD_STOP : goal.returns-then-right-ge-DEAD_STOP
 unfolding joined_kind
-returns-then-right-ge-DEAD_STOP c = record { whole = rw (c.in-Sequence.is, eq-eqb _ _ c.if-left-eq-LIVE_ACTION.true, c.if-right-ge-DEAD_STOP.true-raw) }
+returns-then-right-ge-DEAD_STOP c = record { whole = rw (c.in-Sequence.is, eq-eqb c.args.left 2 c.if-left-eq-LIVE_ACTION.true, le-leb 1 c.args.right c.if-right-ge-DEAD_STOP.true) }
 
 pub returns-else-left-eq-LIVE_ACTION : goal.returns-else-left-eq-LIVE_ACTION
 unfolding joined_kind
