@@ -187,7 +187,7 @@ mod tests {
 | `tables` | Lawful | 3 | 2 |
 | together | 1 files | 3 | 2 |
 
-Two files more, 6 lines (4 without): the laws (`laws` Laws) and calls (`aberulwy` Claims).
+Two files more, 7 lines (4 without): the laws (`laws` Laws) and calls (`aberulwy` Claims).
 
 The other 1 files, 3 lines (2 without), nobody need believe; the `must-fail/` folders hold 2 edits.
 
@@ -201,7 +201,7 @@ The other 1 files, 3 lines (2 without), nobody need believe; the `must-fail/` fo
     const SOURCES: [(&str, &str); 8] = [
         ("crates/tables/specs/Lawful.antt", "-- A\npub record Lawful : Type 0 where\n  pub fit_iff : C\n"),
         ("crates/tables/must-fail/row_n.edit", ""),
-        ("crates/laws/specs/Laws.antt", "use A.{b}\n\nunfoldable pub laws : A\n"),
+        ("crates/laws/specs/Laws.antt", "use A.{b}\npub use C.{d}\n\nunfoldable pub laws : A\n"),
         ("crates/laws/specs/Fits.antt", "-- Nobody need believe this.\npub data Fits : A where\n  here : Fits\n"),
         ("crates/laws/specs/Lib.antt", "pub mod Laws\n"),
         ("crates/laws/must-fail/law_4.edit", ""),
@@ -227,8 +227,8 @@ The other 1 files, 3 lines (2 without), nobody need believe; the `must-fail/` fo
         ("claims: reached_alike", "claims: not_alike", "5: not_alike is no field of any claims"),
         ("| Lawful | 3", "| Lawful | 4", "9: there are 1 files, 3 lines, 2 without"),
         ("together | 1", "together | 2", "10: there are 1 files, 3 lines, 2 without"),
-        ("Two files", "Three files", "12: there are 2 files, 6 lines, 4 without"),
-        ("(`laws` Laws)", "", "14: there are 2 files, 6 lines, 3 without"),
+        ("Two files", "Three files", "12: there are 2 files, 7 lines, 4 without"),
+        ("(`laws` Laws)", "", "14: there are 2 files, 7 lines, 3 without"),
         ("hold 2", "hold 3", "14: there are 2 edits"),
         ("`row_n` |", "`row_m` |", "0: the edit tables/row_n is not listed"),
         ("`row_n` |", "`row_n`, `law_4` |", "19: crate `tables` has no edit `law_4`"),

@@ -85,7 +85,8 @@ pub fn believed(
 /// How many files these are, their lines, and their lines without imports, comments and blanks.
 fn count(repository: &Repository, files: &BTreeSet<String>) -> [usize; 3] {
     let lines = || files.iter().flat_map(|file| repository.text(file).lines());
-    let apart = |l: &&str| l.is_empty() || l.starts_with("--") || l.starts_with("use ");
+    let starts = ["--", "use ", "pub use "];
+    let apart = |l: &&str| l.is_empty() || starts.iter().any(|start| l.starts_with(start));
     let without = lines().map(str::trim).filter(|line| !apart(line));
     let files = files.iter().filter(|file| repository.has(file));
     [files.count(), lines().count(), without.count()]
