@@ -47,14 +47,18 @@ fn read_input<R: io::Read>(input: &mut R, area: &mut [u8]) -> Input
 fn main(rt: HostRuntime) -> io::Result<()> {
     let mut file = [0u8; MOST];
     let Input::Bytes(size) = read_input(&mut rt.reader(), &mut file) else {
-        return rt.stderr().write_all(b"unfold: standard input cannot be read\n");
+        return rt
+            .stderr()
+            .write_all(b"unfold: standard input cannot be read\n");
     };
     let mut text = [0u8; listing::LONGEST];
     let Listed::Whole(length) = listing::list_station(&file[..size], &mut text) else {
         return Ok(());
     };
     if rt.stdout().write_all(&text[..length]).is_err() {
-        return rt.stderr().write_all(b"unfold: standard output cannot be written\n");
+        return rt
+            .stderr()
+            .write_all(b"unfold: standard output cannot be written\n");
     }
     Ok(())
 }
