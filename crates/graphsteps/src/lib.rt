@@ -130,7 +130,8 @@ fn redex_size(sizes: &[u16], word: u8, operands: Operands) -> usize
 
 // Reads an entry that stands for a term.
 fn read_term(sizes: &[u16], stack: &mut [u16], reading: Reading, v: u16) -> Reading
-    requires height_in_bounds { (reading.height < length stack.old) × (reading.rest < most_words) × (reading.read ≤ most_words) × (length stack.old ≡ most_words) }
+    requires height_in_bounds { (reading.height < length stack.old) × (reading.rest < most_words) × (reading.read ≤ most_words)
+        × (length stack.old ≡ most_words) }
     requires v_in_bounds { 256 ≤ v → v < length sizes.now }
     ensures { (result ≡ after_term sizes.now reading v) × (stack.new ≡ set stack.old reading.height v) }
 {
