@@ -124,6 +124,7 @@ fn use_right(block: &[u8], blocks: usize, i: usize) -> bool
 }
 
 // Refusals 52 to 54 of block i of so many. It is accepted exactly when it is a block as `make_block` makes it, with a count that block i may have.
+#[tactic(auto, unfolding(crate::specs::Block::block_refusal))]
 pub fn judge_block(block: &[u8], blocks: usize, i: usize) -> Judgement
     requires { (length block.now ≡ 512) × (i < blocks) }
     ensures whole { result ≡ judged (block_refusal blocks i block.now) }

@@ -1,34 +1,28 @@
--- `blocks::judge_block` meets its contract: the sum, the number and the use, in this order.
-use Rattle.blocks.specs.Block.{block_refusal}
-use Rattle.blocks.proofs.Made.{answered_iff}
-use Rattle.std.proofs.Common.{arith}
+-- `blocks::judge_block` meets its contract: the sum, the number and the use, in this order. Each return is what the definition answers, by the
+-- calls' answers; so it accepts what the plain statement says.
+use Rattle.std.proofs.Common.{ℕ, List, length, ◌≡◌, ◌↔◌, arith, rules}
+use Rattle.refusals.specs.declared.Judgement.{Judgement}
+use Rattle.refusals.specs.declared.Judgement.TheVariants.{Accepted}
+use Rattle.refusals.specs.Refusal.{judged}
+use Rattle.blocks.specs.Block.{block_refusal, RightBlock}
+use Rattle.blocks.proofs.Made.{Bytes, answered_iff}
 use Rattle.blocks.proofs.judge_block.Goals as goal
 
--- each: what is answered by the definition is answered by the plain statement
-pub returns-then-not-sum : goal.returns-then-not-sum
-unfolding block_refusal
-returns-then-not-sum c =
-    let both = answered_iff c.args.blocks c.args.i c.args.block.now c.requires.0 (λ j. omega (arith, c.type_inv.block j))
-    (rw (c.refused.ensures.whole, ← c.sum_right-sum.ensures.whole, c.if-not-sum.true)) in
-    record { whole = both.0; exactly = both.1 }
+exactly : (n i : ℕ) (b : List ℕ) → length b ≡ 512 → Bytes b → {r : Judgement} → r ≡ judged (block_refusal n i b) → (r ≡ Accepted) ↔ RightBlock n i b
+exactly n i b long bytes e = (answered_iff n i b long bytes e).1
 
-pub returns-then-not-number : goal.returns-then-not-number
+pub returns-then-not-sum-clause-exactly : goal.returns-then-not-sum-clause-exactly
 unfolding block_refusal
-returns-then-not-number c =
-    let both = answered_iff c.args.blocks c.args.i c.args.block.now c.requires.0 (λ j. omega (arith, c.type_inv.block j))
-    (rw (c.refused-then-not-number.ensures.whole, ← c.sum_right-sum.ensures.whole, c.if-not-sum.false, ← c.number_right-number.ensures.whole, c.if-not-number.true)) in
-    record { whole = both.0; exactly = both.1 }
+returns-then-not-sum-clause-exactly c = exactly _ _ _ c.requires.0 (λ j. omega (arith, c.type_inv.block j)) (search rules)
 
-pub returns-then-use_right : goal.returns-then-use_right
+pub returns-then-not-number-clause-exactly : goal.returns-then-not-number-clause-exactly
 unfolding block_refusal
-returns-then-use_right c =
-    let both = answered_iff c.args.blocks c.args.i c.args.block.now c.requires.0 (λ j. omega (arith, c.type_inv.block j))
-    (rw (← c.sum_right-sum.ensures.whole, c.if-not-sum.false, ← c.number_right-number.ensures.whole, c.if-not-number.false, ← c.use_right.ensures.whole, c.if-use_right.true)) in
-    record { whole = both.0; exactly = both.1 }
+returns-then-not-number-clause-exactly c = exactly _ _ _ c.requires.0 (λ j. omega (arith, c.type_inv.block j)) (search rules)
 
-pub returns-else-use_right : goal.returns-else-use_right
+pub returns-then-use_right-clause-exactly : goal.returns-then-use_right-clause-exactly
 unfolding block_refusal
-returns-else-use_right c =
-    let both = answered_iff c.args.blocks c.args.i c.args.block.now c.requires.0 (λ j. omega (arith, c.type_inv.block j))
-    (rw (c.refused-else-use_right.ensures.whole, ← c.sum_right-sum.ensures.whole, c.if-not-sum.false, ← c.number_right-number.ensures.whole, c.if-not-number.false, ← c.use_right.ensures.whole, c.if-use_right.false)) in
-    record { whole = both.0; exactly = both.1 }
+returns-then-use_right-clause-exactly c = exactly _ _ _ c.requires.0 (λ j. omega (arith, c.type_inv.block j)) (search rules)
+
+pub returns-else-use_right-clause-exactly : goal.returns-else-use_right-clause-exactly
+unfolding block_refusal
+returns-else-use_right-clause-exactly c = exactly _ _ _ c.requires.0 (λ j. omega (arith, c.type_inv.block j)) (search rules)
