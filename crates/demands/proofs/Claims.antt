@@ -28,7 +28,8 @@ use Rattle.unfolding.specs.Unfolding.{unfold_refusal, unfold_outcome, unless_ref
 use Rattle.checking.specs.declared.Checked.TheVariants.{Accepted}
 use Rattle.checking.specs.Checking.{replay_of, records_refusal, rewriting_refusal, check_refusal, check_outcome}
 use Rattle.checking.proofs.Accepting.{accepted_alike}
-use Rattle.demands.proofs.Reports.{unfold_accepts, shown, shown-stopped, not_refused, reports_run, told, reached_told, own_told}
+pub use Rattle.demands.proofs.Reports.{take-padded, reached_is, unfold_accepts, reports_run}
+use Rattle.demands.proofs.Reports.{shown, shown-stopped, not_refused, told, reached_told, own_told}
 use Rattle.demands.proofs.Allowance.{end-claims, allowance-claims}
 use Rattle.demands.specs.Allowance.{steps_needed, end_plan}
 use Rattle.demands.specs.Claims.{UnfoldClaims, CheckClaims}

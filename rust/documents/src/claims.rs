@@ -179,15 +179,15 @@ mod tests {
 | definition | contract |
 |---|---|
 | x\\|y `tables` Lawful `Lawful`; `laws` Laws, Fits `laws`, `Fits` | `whole` of each call; `unfold` whole, claims |
-| `UnfoldClaims` answered, reached_alike (31) | claims of `unfold`; `aberulwy::inner`; no `requires` |
-| `law_4`, `laws/law_4`, `end E`, `0`, `specs/` | `unfold` whole: `laws`; claims: reached_alike; `…_iff` |
+| `UnfoldClaims` answered, reached-alike (31) | claims of `unfold`; `aberulwy::inner`; no `requires` |
+| `law_4`, `laws/law_4`, `end E`, `0`, `specs/` | `unfold` whole: `laws`; claims: reached-alike; `…-iff` |
 
 | crate | files in `specs/` | lines | without |
 |---|---|--:|--:|
 | `tables` | Lawful | 3 | 2 |
 | together | 1 files | 3 | 2 |
 
-Two files more, 7 lines (4 without): the laws (`laws` Laws) and calls (`aberulwy` Claims).
+Two files more, 6 lines (4 without): the laws (`laws` Laws) and calls (`aberulwy` Claims).
 
 The other 1 files, 3 lines (2 without), nobody need believe; the `must-fail/` folders hold 2 edits.
 
@@ -199,20 +199,20 @@ The other 1 files, 3 lines (2 without), nobody need believe; the `must-fail/` fo
 
     #[rustfmt::skip]
     const SOURCES: [(&str, &str); 8] = [
-        ("crates/tables/specs/Lawful.antt", "-- A\npub record Lawful : Type 0 where\n  pub fit_iff : C\n"),
+        ("crates/tables/specs/Lawful.antt", "-- A\npub record Lawful : Type 0 where\n  pub fit-iff : C\n"),
         ("crates/tables/must-fail/row_n.edit", ""),
-        ("crates/laws/specs/Laws.antt", "use A.{b}\npub use C.{d}\n\nunfoldable pub laws : A\n"),
+        ("crates/laws/specs/Laws.antt", "use A.{b}\n\nunfoldable pub laws : A\n"),
         ("crates/laws/specs/Fits.antt", "-- Nobody need believe this.\npub data Fits : A where\n  here : Fits\n"),
         ("crates/laws/specs/Lib.antt", "pub mod Laws\n"),
         ("crates/laws/must-fail/law_4.edit", ""),
-        ("crates/aberulwy/specs/Claims.antt", "pub record UnfoldClaims : Type 0 where\n  pub answered : A\n  pub reached_alike : A\n"),
+        ("crates/aberulwy/specs/Claims.antt", "pub record UnfoldClaims : Type 0 where\n  pub answered : A\n  pub reached-alike : A\n"),
         ("crates/aberulwy/src/lib.rt", "pub fn unfold(a: u8)\n    ensures whole { x }\n    ensures claims { y }\n{\n}\nfn inner() {}\n\
             pub fn reached()\n    ensures whole { x }\n    ensures bounded { y }\n{\n}\n"),
     ];
 
     /// What is right, what is written for it, and what is then found.
     #[rustfmt::skip]
-    const WRONG: [(&str, &str, &str); 19] = [
+    const WRONG: [(&str, &str, &str); 18] = [
         ("`Lawful`;", "`Unlawful`;", "3: `Unlawful` is declared nowhere in crates/"),
         ("`Lawful`;", "`Fits`;", "3: `Fits` is not declared in `tables` Lawful"),
         ("`Fits` |", "`Lawful` |", "3: `Lawful` is not declared in `laws` Laws, Fits"),
@@ -220,15 +220,14 @@ The other 1 files, 3 lines (2 without), nobody need believe; the `must-fail/` fo
         ("`whole` of each call", "bounded of `unfold`", "3: `unfold` has no clause bounded"),
         ("whole, claims", "whole, bounded", "3: `unfold` has no clause bounded"),
         ("claims of `unfold`", "claims of `reached`", "4: `reached` has no clause claims"),
-        ("(31)", "(31), too_long", "4: too_long is no field of UnfoldClaims"),
         ("(31)", "(31), too-long", "4: too-long is no field of UnfoldClaims"),
         ("`aberulwy::inner`", "`tables::inner`", "4: `tables::inner` is declared nowhere in crates/"),
         ("`laws/law_4`", "`tables/law_4`", "5: `tables/law_4` is declared nowhere in crates/"),
-        ("claims: reached_alike", "claims: not_alike", "5: not_alike is no field of any claims"),
+        ("claims: reached-alike", "claims: not-alike", "5: not-alike is no field of any claims"),
         ("| Lawful | 3", "| Lawful | 4", "9: there are 1 files, 3 lines, 2 without"),
         ("together | 1", "together | 2", "10: there are 1 files, 3 lines, 2 without"),
-        ("Two files", "Three files", "12: there are 2 files, 7 lines, 4 without"),
-        ("(`laws` Laws)", "", "14: there are 2 files, 7 lines, 3 without"),
+        ("Two files", "Three files", "12: there are 2 files, 6 lines, 4 without"),
+        ("(`laws` Laws)", "", "14: there are 2 files, 6 lines, 3 without"),
         ("hold 2", "hold 3", "14: there are 2 edits"),
         ("`row_n` |", "`row_m` |", "0: the edit tables/row_n is not listed"),
         ("`row_n` |", "`row_n`, `law_4` |", "19: crate `tables` has no edit `law_4`"),
@@ -244,6 +243,54 @@ The other 1 files, 3 lines (2 without), nobody need believe; the `must-fail/` fo
             let found = found(&TRUE.replacen(right, wrong, 1));
             let wanted = format!("{FILE}:{what}");
             assert!(found.contains(&wanted), "{wanted}\n{}", found.join("\n"));
+        }
+    }
+
+    /// Names with low lines, and imports that are passed on.
+    #[test]
+    fn todays_spelling() {
+        let spelt = |text: &str| {
+            text.replace("reached-alike", "reached_alike")
+                .replace("…-iff", "…_iff")
+        };
+        let mut sources: Vec<(&str, String)> = SOURCES
+            .iter()
+            .map(|(path, text)| (*path, spelt(text).replace("fit-iff", "fit_iff")))
+            .collect();
+        sources[2].1 = sources[2]
+            .1
+            .replace("use A.{b}\n", "use A.{b}\npub use C.{d}\n");
+        let sources: Vec<(&str, &str)> = sources
+            .iter()
+            .map(|(path, text)| (*path, text.as_str()))
+            .collect();
+        let repository = Repository::of(&sources);
+        let found = |text: &str| printed(check_text(&repository, &Declared::of(&repository), text));
+        let right = spelt(TRUE).replace("6 lines (4 without)", "7 lines (4 without)");
+        assert_eq!(found(&right), Vec::<String>::new());
+        for (from, to, what) in [
+            (
+                "(31)",
+                "(31), too_long",
+                "4: too_long is no field of UnfoldClaims",
+            ),
+            (
+                "claims: reached_alike",
+                "claims: not_alike",
+                "5: not_alike is no field of any claims",
+            ),
+            (
+                "7 lines",
+                "6 lines",
+                "12: there are 2 files, 7 lines, 4 without",
+            ),
+        ] {
+            let found = found(&right.replacen(from, to, 1));
+            assert!(
+                found.contains(&format!("{FILE}:{what}")),
+                "{what}\n{}",
+                found.join("\n")
+            );
         }
     }
 }

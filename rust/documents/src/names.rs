@@ -102,7 +102,7 @@ mod tests {
 
     #[rustfmt::skip]
     const SOURCES: [(&str, &str); 5] = [
-        ("crates/tables/specs/Lawful.antt", "-- not : this\nuse lib.ListN.{get_or, take}\npub record Lawful :\nf = let k : A\n"),
+        ("crates/tables/specs/Lawful.antt", "-- not : this\nuse lib.ListN.{getD, take}\npub record Lawful :\nf = let k : A\n"),
         ("crates/plans/src/lib.rt", "// fn gone\nconst fn judge() { io::decimal(3) }\n"),
         ("crates/plans/must-fail/row_n.edit", ""),
         ("rust/aberulwy/src/lib.rs", "pub enum Ending {\n    Finished(u8),\n}\n"),
