@@ -1,4 +1,5 @@
 -- What the unfolding and the checker answer, in 01's numbers, and what is claimed of them, from their outcomes.
+use Rattle.std.specs.Prelude.{Result, Ok, Err, Some, None}
 use Prim.Native.Nat.{ℕ, ◌*◌}
 use mathlib.Core.Path.{◌≡◌, refl, sym, ◌∙◌, ap, subst}
 use mathlib.Core.Bool.{Bool, true, false, cond}
@@ -14,7 +15,7 @@ use Rattle.areas.specs.Area.{padded}
 use Rattle.areas.specs.Reached.{capacity, even?, reached_part}
 use Rattle.rewritings.specs.Moves.{bytes_of}
 use Rattle.unfolding.specs.declared.Unfolded.{Unfolded}
-use Rattle.unfolding.specs.declared.Unfolded.TheVariants.{Finished, Stopped, Refused as NotUnfolded}
+use Rattle.unfolding.specs.declared.Unfolded.TheVariants.{Finished, Stopped}
 use Rattle.rewritings.specs.Runs.{Run, run_of}
 use Rattle.unfolding.specs.Unfolding.{unfolded, unfold_refusal, unfold_outcome, UnfoldOutcome}
 use Rattle.unfolding.specs.Unfolding as unfolding_of
@@ -24,7 +25,6 @@ use Rattle.checking.specs.Checking.{Replay, replay_of, checked, check_refusal, c
 use Rattle.checking.specs.Checking as checking_of
 use Rattle.demands.specs.Reports.{unfold_given, Reports, finished, stopped, own_rewriting}
 use Rattle.demands.specs.Claims.{check_given, UnfoldClaims, CheckClaims, StepClaims}
-use Rattle.aberulwy.specs.declared.OwnCheck.TheVariants.{Checked as OwnChecked, NotChecked as NothingChecked}
 use Rattle.demands.proofs.Running.{run-records-long}
 use Rattle.demands.proofs.Reports.{take-padded, reached_is, reports_run}
 use Rattle.demands.proofs.Claims.{unfold_claims, check_claims}
@@ -36,7 +36,7 @@ run_numbers : (r : Run) → unfold_report (unfolded r) ≡ record { number = r.n
 run_numbers r = go (eqb r.number 0) refl
   where
     go : (b : Bool) → eqb r.number 0 ≡ b
-        → unfold_report (cond b (Finished r.steps (length r.plan)) (Stopped r.number r.steps (length r.plan)))
+        → unfold_report (cond b (Ok (Finished r.steps (length r.plan))) (Ok (Stopped r.number r.steps (length r.plan))))
         ≡ record { number = r.number; place = 0; values = r.steps ∷ length r.plan ∷ [] }
     go true e = ap (λ (k : ℕ). record { number = k; place = 0; values = r.steps ∷ length r.plan ∷ [] }) (sym (eqb-true r.number 0 e))
     go false e = refl
@@ -45,7 +45,7 @@ replay_numbers : (r : Replay) → check_report (checked r) ≡ record { number =
 replay_numbers r = go (eqb r.number 0) refl
   where
     go : (b : Bool) → eqb r.number 0 ≡ b
-        → check_report (cond b (Accepted r.steps (length r.plan)) (TurnedBack r.number r.steps (length r.plan)))
+        → check_report (cond b (Ok (Accepted r.steps (length r.plan))) (Ok (TurnedBack r.number r.steps (length r.plan))))
         ≡ record { number = r.number; place = 0; values = r.steps ∷ length r.plan ∷ [] }
     go true e = ap (λ (k : ℕ). record { number = k; place = 0; values = r.steps ∷ length r.plan ∷ [] }) (sym (eqb-true r.number 0 e))
     go false e = refl
@@ -63,14 +63,12 @@ module _ (t : Tables) (plan : List ℕ) (m : ℕ) (list a b : List ℕ) where
 
   pub unfold_contract : (o : UnfoldOutcome) → o ≡ unfold_outcome t plan m list a b
       → (o ≡ unfold_outcome t plan m list a b)
-      × ((unfold_report o.answer ≡ unfold_reported t plan m list a b)
-      × UnfoldClaims (unfold_given t plan m list a b) o)
+      × (unfold_report o.answer ≡ unfold_reported t plan m list a b)
+      × UnfoldClaims (unfold_given t plan m list a b) o
   unfold_contract o e = (
     e,
-    (
-      ap (λ (x : UnfoldOutcome). unfold_report x.answer) e ∙ unfold_numbers,
-      subst (UnfoldClaims (unfold_given t plan m list a b)) (sym e) (unfold_claims t plan m list a b),
-    ),
+    ap (λ (x : UnfoldOutcome). unfold_report x.answer) e ∙ unfold_numbers,
+    subst (UnfoldClaims (unfold_given t plan m list a b)) (sym e) (unfold_claims t plan m list a b),
   )
 
 -- and so does that of a check
@@ -87,22 +85,19 @@ module _ (t : Tables) (start claimed rewriting a b : List ℕ) where
 
   pub check_contract : (o : CheckOutcome) → o ≡ check_outcome t start claimed rewriting a b
       → (o ≡ check_outcome t start claimed rewriting a b)
-      × ((check_report o.answer ≡ check_reported t start claimed rewriting a b)
-      × (CheckClaims (check_given t start claimed rewriting a b) o × StepClaims (check_given t start claimed rewriting a b) o))
+      × (check_report o.answer ≡ check_reported t start claimed rewriting a b)
+      × CheckClaims (check_given t start claimed rewriting a b) o
+      × StepClaims (check_given t start claimed rewriting a b) o
   check_contract o e = (
     e,
-    (
-      ap (λ (x : CheckOutcome). check_report x.answer) e ∙ check_numbers,
-      (
-        subst (CheckClaims (check_given t start claimed rewriting a b)) (sym e) (check_claims t start claimed rewriting a b),
-        subst (StepClaims (check_given t start claimed rewriting a b)) (sym e) (step-claims t start claimed rewriting a b),
-      ),
-    ),
+    ap (λ (x : CheckOutcome). check_report x.answer) e ∙ check_numbers,
+    subst (CheckClaims (check_given t start claimed rewriting a b)) (sym e) (check_claims t start claimed rewriting a b),
+    subst (StepClaims (check_given t start claimed rewriting a b)) (sym e) (step-claims t start claimed rewriting a b),
   )
 
 -- both calls, one after the other: what they leave is both outcomes, and the check of the own rewriting accepts
 module _ (t : Tables) (plan : List ℕ) (m : ℕ) (list a b c d : List ℕ) where
-  own-answer : (o : UnfoldOutcome) {x : Unfolded} {s z : ℕ} → Reports x s z
+  own-answer : (o : UnfoldOutcome) {x : Result Unfolded Refusal} {s z : ℕ} → Reports x s z
       → check_own t plan o x c d ≡ own_outcome (check_outcome t plan (reached_part (even? s) z o.a o.b) (own_rewriting s o.list) c d)
   unfolding check_own
   own-answer o finished = refl
@@ -137,44 +132,42 @@ module _ (t : Tables) (plan : List ℕ) (m : ℕ) (list a b c d : List ℕ) wher
   abbrev Left : UnfoldOutcome → OwnOutcome → Type 0
   Left o w =
       (◌≡◌ {A = BothOutcome} (record { unfolded = o; own = w }) (both_outcome t plan m list a b c d))
-      × (((unfold_report o.answer ≡ unfold_reported t plan m list a b)
-      × (own_report w.answer ≡ own_reported t plan m list a b c d))
-      × (UnfoldClaims (unfold_given t plan m list a b) o × OwnAccepted o.answer w.answer a b c d))
+      × ((unfold_report o.answer ≡ unfold_reported t plan m list a b) × (own_report w.answer ≡ own_reported t plan m list a b c d))
+      × UnfoldClaims (unfold_given t plan m list a b) o
+      × OwnAccepted o.answer w.answer a b c d
 
-  pub both_contract : (o : UnfoldOutcome) (w : OwnOutcome) → o ≡ unfold_outcome t plan m list a b → w ≡ check_own t plan o o.answer c d → Left o w
+  both_contract : (o : UnfoldOutcome) (w : OwnOutcome) → o ≡ unfold_outcome t plan m list a b → w ≡ check_own t plan o o.answer c d → Left o w
   unfolding both_outcome
   both_contract o w e h =
       let u = unfold_contract t plan m list a b o e in (
         ap (λ (x : OwnOutcome). record { unfolded = o; own = x }) h
             ∙ ap (λ (x : UnfoldOutcome). record { unfolded = x; own = check_own t plan x x.answer c d }) e,
         (
-          (
-            u.1.0,
-            ap (λ (x : OwnOutcome). own_report x.answer) h
-                ∙ (ap (λ (x : UnfoldOutcome). own_report (check_own t plan x x.answer c d).answer) e ∙ own_numbers),
-          ),
-          (
-            u.1.1,
-            record {
-              accepts = λ s z r i j.
-                  ap (λ (x : OwnOutcome). x.answer) (h ∙ own-answer o r) ∙ ap (λ (x : Checked). OwnChecked x) (u.1.1.own_rewriting_accepted s z r c d i j);
-            },
-          ),
+          u.1,
+          ap (λ (x : OwnOutcome). own_report x.answer) h
+              ∙ (ap (λ (x : UnfoldOutcome). own_report (check_own t plan x x.answer c d).answer) e ∙ own_numbers),
         ),
+        u.2,
+        record {
+          accepts = λ s z r i j.
+              ap (λ (x : OwnOutcome). x.answer) (h ∙ own-answer o r)
+              ∙ ap (λ (x : Result Checked Refusal). Some x) (u.2.own_rewriting_accepted s z r c d i j);
+        },
       )
 
-  -- the unfolding answered x, which reports so many steps and words, and its own rewriting was checked
-  pub both_checked : {x x' : Unfolded} {s k : ℕ} (l y z : List ℕ) → Reports x s k → x' ≡ x
-      → record { answer = x'; list = l; a = y; b = z } ≡ unfold_outcome t plan m list a b
-      → (v : CheckOutcome) → v ≡ check_outcome t plan (reached_part (even? s) k y z) (own_rewriting s l) c d → Left (record { answer = x; list = l; a = y; b = z }) (own_outcome v)
-  both_checked {x} l y z r q e v h =
-      both_contract (record { answer = x; list = l; a = y; b = z }) (own_outcome v)
-      (subst (λ (i : Unfolded). record { answer = i; list = l; a = y; b = z } ≡ unfold_outcome t plan m list a b) q e)
-      (ap own_outcome h ∙ sym (own-answer (record { answer = x; list = l; a = y; b = z }) r))
+  -- the unfolding answered u, which reports so many steps and words, and its own rewriting was checked
+  pub both_checked : {x : Result Unfolded Refusal} {u : Unfolded} {s k : ℕ} (l y z : List ℕ) → x ≡ Ok u → Reports (Ok u) s k
+      → record { answer = x; list = l; a = y; b = z } ≡ unfold_outcome t plan m list a b
+      → (v : CheckOutcome) → v ≡ check_outcome t plan (reached_part (even? s) k y z) (own_rewriting s l) c d
+      → Left (record { answer = Ok u; list = l; a = y; b = z }) (own_outcome v)
+  both_checked {u = u} l y z q r e v h =
+      let o : UnfoldOutcome = record { answer = Ok u; list = l; a = y; b = z } in
+      both_contract o (own_outcome v) (rw q at e) (ap own_outcome h ∙ sym (own-answer o r))
 
   -- it was refused
-  pub both_refused : {x : Unfolded} {f : Refusal} (l y z : List ℕ) → x ≡ NotUnfolded f → record { answer = x; list = l; a = y; b = z } ≡ unfold_outcome t plan m list a b
-      → Left (record { answer = x; list = l; a = y; b = z }) (record { answer = NothingChecked; a = c; b = d })
+  pub both_refused : {x : Result Unfolded Refusal} {f : Refusal} (l y z : List ℕ) → x ≡ Err f
+      → record { answer = x; list = l; a = y; b = z } ≡ unfold_outcome t plan m list a b
+      → Left (record { answer = x; list = l; a = y; b = z }) (record { answer = None; a = c; b = d })
   unfolding check_own
   both_refused {x} l y z q e =
-      both_contract (record { answer = x; list = l; a = y; b = z }) (record { answer = NothingChecked; a = c; b = d }) e (rw q)
+      both_contract (record { answer = x; list = l; a = y; b = z }) (record { answer = None; a = c; b = d }) e (rw q)

@@ -1,6 +1,6 @@
 -- The answers of the unfolding and of the checker in document 01's numbers. (01, "Unfolding" and "Checking".)
 use Prim.Native.Nat.{ℕ}
-use Rattle.std.specs.Prelude.{◌≡◌}
+use Rattle.std.specs.Prelude.{◌≡◌, Result, Ok, Err, Some, None, Option as Maybe}
 use mathlib.Core.List.{List, [], ◌∷◌}
 use Rattle.std.proofs.Math.Option.{Option, none, some}
 use Rattle.std.proofs.Math.ListN.{length}
@@ -10,27 +10,25 @@ use Rattle.rewritings.specs.Moves.{bytes_of}
 use Rattle.refusals.specs.declared.Refusal.{Refusal}
 use Rattle.refusals.specs.Refusal.{Report, refused_report}
 use Rattle.unfolding.specs.declared.Unfolded.{Unfolded}
-use Rattle.unfolding.specs.declared.Unfolded.TheVariants.{Finished, Stopped, Refused as NotUnfolded}
+use Rattle.unfolding.specs.declared.Unfolded.TheVariants.{Finished, Stopped}
 use Rattle.rewritings.specs.Runs.{Run, run_of}
 use Rattle.unfolding.specs.Unfolding.{unfold_refusal, unfold_outcome, UnfoldOutcome}
 use Rattle.checking.specs.declared.Checked.{Checked}
-use Rattle.checking.specs.declared.Checked.TheVariants.{Accepted, TurnedBack, Refused as CheckRefused}
+use Rattle.checking.specs.declared.Checked.TheVariants.{Accepted, TurnedBack}
 use Rattle.checking.specs.Checking.{Replay, replay_of, check_refusal, check_outcome, CheckOutcome}
 use Rattle.demands.specs.Reports.{Reports, own_rewriting}
-use Rattle.aberulwy.specs.declared.OwnCheck.{OwnCheck}
-use Rattle.aberulwy.specs.declared.OwnCheck.TheVariants.{Checked as OwnChecked, NotChecked as NothingChecked}
 
 -- each case of an unfolding's answer: 0, or 34 to 36, with the steps made and the length of the plan reached; or a refusal
-abbrev pub unfold_report : Unfolded → Report
-unfold_report (Finished steps size) = record { number = 0; place = 0; values = steps ∷ size ∷ [] }
-unfold_report (Stopped number steps size) = record { number = number; place = 0; values = steps ∷ size ∷ [] }
-unfold_report (NotUnfolded r) = refused_report r
+abbrev pub unfold_report : Result Unfolded Refusal → Report
+unfold_report (Ok (Finished steps size)) = record { number = 0; place = 0; values = steps ∷ size ∷ [] }
+unfold_report (Ok (Stopped number steps size)) = record { number = number; place = 0; values = steps ∷ size ∷ [] }
+unfold_report (Err r) = refused_report r
 
 -- each case of a check's answer: 0, or 31 to 33, with the steps made and the length of the plan reached; or a refusal
-abbrev pub check_report : Checked → Report
-check_report (Accepted steps size) = record { number = 0; place = 0; values = steps ∷ size ∷ [] }
-check_report (TurnedBack number steps size) = record { number = number; place = 0; values = steps ∷ size ∷ [] }
-check_report (CheckRefused r) = refused_report r
+abbrev pub check_report : Result Checked Refusal → Report
+check_report (Ok (Accepted steps size)) = record { number = 0; place = 0; values = steps ∷ size ∷ [] }
+check_report (Ok (TurnedBack number steps size)) = record { number = number; place = 0; values = steps ∷ size ∷ [] }
+check_report (Err r) = refused_report r
 
 -- what is reported of a run, or of a replay, unless something is refused before it
 abbrev pub reported_run : Option Refusal → Run → Report
@@ -51,9 +49,9 @@ check_reported t start claimed rewriting a b =
     reported_replay (check_refusal t start claimed rewriting (capacity a b)) (replay_of t start claimed rewriting (capacity a b))
 
 -- each case of the check of an unfolding's own rewriting: the check's report, and none where nothing was checked
-abbrev pub own_report : OwnCheck → Option Report
-own_report (OwnChecked x) = some (check_report x)
-own_report NothingChecked = none
+abbrev pub own_report : Maybe (Result Checked Refusal) → Option Report
+own_report (Some x) = some (check_report x)
+own_report None = none
 
 -- what is reported of that check, with at most c words to a plan: none where the unfolding is refused; else what is reported of the replay of the
 -- records of the run's steps, from the given plan to the plan that the run reached
@@ -69,7 +67,7 @@ own_reported t plan m list a b c d =
 
 -- the check of an unfolding's own rewriting, and everything that both answer and leave
 pub record OwnOutcome : Type 0 where
-  pub answer : OwnCheck
+  pub answer : Maybe (Result Checked Refusal)
   pub a : List ℕ
   pub b : List ℕ
 
@@ -78,16 +76,16 @@ pub record BothOutcome : Type 0 where
   pub own : OwnOutcome
 
 abbrev pub own_outcome : CheckOutcome → OwnOutcome
-own_outcome o = record { answer = OwnChecked o.answer; a = o.a; b = o.b }
+own_outcome o = record { answer = Some o.answer; a = o.a; b = o.b }
 
 -- "The checker is handed it with the same tables, the given plan as start plan, the plan reached as claimed end plan, and areas": what the check
 -- comes to after an unfolding with this answer that left o. Nothing is checked where the unfolding was refused.
-unfoldable pub check_own : Tables → List ℕ → UnfoldOutcome → Unfolded → List ℕ → List ℕ → OwnOutcome
-check_own t plan o (Finished steps size) c d =
+unfoldable pub check_own : Tables → List ℕ → UnfoldOutcome → Result Unfolded Refusal → List ℕ → List ℕ → OwnOutcome
+check_own t plan o (Ok (Finished steps size)) c d =
     own_outcome (check_outcome t plan (reached_part (even? steps) size o.a o.b) (own_rewriting steps o.list) c d)
-check_own t plan o (Stopped number steps size) c d =
+check_own t plan o (Ok (Stopped number steps size)) c d =
     own_outcome (check_outcome t plan (reached_part (even? steps) size o.a o.b) (own_rewriting steps o.list) c d)
-check_own t plan o (NotUnfolded r) c d = record { answer = NothingChecked; a = c; b = d }
+check_own t plan o (Err r) c d = record { answer = None; a = c; b = d }
 
 unfoldable pub both_outcome : Tables → List ℕ → ℕ → List ℕ → List ℕ → List ℕ → List ℕ → List ℕ → BothOutcome
 both_outcome t plan m list a b c d =
@@ -97,5 +95,5 @@ both_outcome t plan m list a b c d =
     }
 
 -- "given the same tables and areas of the same lengths, the checker accepts the unfolding's own rewriting, whole"
-pub record OwnAccepted (unfolded : Unfolded) (own : OwnCheck) (a b c d : List ℕ) : Type 0 where
-  pub accepts : (steps size : ℕ) → Reports unfolded steps size → length c ≡ length a → length d ≡ length b → own ≡ OwnChecked (Accepted steps size)
+pub record OwnAccepted (unfolded : Result Unfolded Refusal) (own : Maybe (Result Checked Refusal)) (a b c d : List ℕ) : Type 0 where
+  pub accepts : (steps size : ℕ) → Reports unfolded steps size → length c ≡ length a → length d ≡ length b → own ≡ Some (Ok (Accepted steps size))

@@ -1,4 +1,5 @@
 -- Reports handed over as numbers: what each arm of the calls needs.
+use Rattle.std.specs.Prelude.{Result, Some, None, Option as Maybe}
 use Prim.Native.Nat.{ℕ, ◌+◌, ◌≤◌, ◌<◌}
 use mathlib.Core.Path.{◌≡◌, refl, sym, ◌∙◌, ap, subst}
 use mathlib.Core.Bool.{Bool, true, false}
@@ -13,11 +14,9 @@ use Rattle.areas.proofs.Area.{take-overwrite}
 use Rattle.refusals.specs.declared.Refusal.{Refusal}
 use Rattle.refusals.specs.Refusal.{Report, printed, refused_report}
 use Rattle.checking.specs.declared.Checked.{Checked}
-use Rattle.aberulwy.specs.declared.OwnCheck.{OwnCheck}
-use Rattle.aberulwy.specs.declared.OwnCheck.TheVariants.{Checked as OwnChecked, NotChecked}
+use Rattle.std.specs.Int.{from_bool}
+use Rattle.aberulwy.specs.Judging.{bit}
 use Rattle.aberulwy.specs.Rewriting.{unfold_report, check_report, own_report, BothOutcome}
-use Rattle.listing.specs.declared.Listed.{Listed}
-use Rattle.listing.specs.declared.Listed.TheVariants.{Whole, Short}
 use Rattle.listing.specs.Listing.{listing}
 use Rattle.listing.specs.Writing.{ListOutcome, list_outcome}
 use Rattle.listing.specs.Writing as listing_of
@@ -38,47 +37,49 @@ pub refused : {A : Type 0} (say : A → Report) {o v : A} {R : Report} (f : Refu
     → (n ≡ f.number) × (p ≡ printed f.place) → Answered R n p 0 0
 refused say f e h k q = answered (sym k ∙ (sym (ap say e) ∙ h)) (record { number = q.0; place = q.1; first = refl; second = refl })
 
+-- 1 for true and 0 for false, as the library has it
+pub bit_of : (b : Bool) → from_bool b ≡ bit b
+bit_of true = refl
+bit_of false = refl
+
 -- a report that may not be there: that of a check, and none
-pub own-made : {o : OwnCheck} {v : Checked} {n p x y : ℕ} → o ≡ OwnChecked v → Answered (check_report v) n p x y → MaybeAnswered (own_report o) 1 n p x y
+pub own-made : {o : Maybe (Result Checked Refusal)} {v : Result Checked Refusal} {n p x y : ℕ} → o ≡ Some v → Answered (check_report v) n p x y → MaybeAnswered (own_report o) 1 n p x y
 own-made {n} {p} {x} {y} e h =
     subst (λ (z : Option Report). MaybeAnswered z 1 n p x y) (sym (ap own_report e)) (record { made = refl; answered = h })
 
-pub own-not_made : {o : OwnCheck} → o ≡ NotChecked → MaybeAnswered (own_report o) 0 0 0 0 0
-own-not_made e =
-    subst (λ (z : Option Report). MaybeAnswered z 0 0 0 0 0) (sym (ap own_report e))
-    (record { made = refl; answered = record { number = refl; place = refl; first = refl; second = refl } })
-
--- bytes handed over: the area is too short, or they are copied and zeros put behind them
+-- bytes handed over: the area is too short, or they are put in with zeros behind them
 pub too_short : (bytes out : List ℕ) → length out < length bytes → ◌≡◌ {A = HandedOver} (record { number = 1; size = 0; out = out }) (handed_over bytes out)
 unfolding handed_over
 too_short bytes out h = sym (ap (λ (b : Bool). if_fits b bytes out) (lt-leb (length bytes) (length out) h))
 
+pub put_in : (bytes out : List ℕ) {out' : List ℕ} → length bytes ≤ length out → out' ≡ padded bytes (length out)
+    → ◌≡◌ {A = HandedOver} (record { number = 0; size = length bytes; out = out' }) (handed_over bytes out)
+unfolding handed_over
+put_in bytes out h e = rw (e, le-leb (length bytes) (length out) h)
+
+-- the same of bytes that are copied, and then zeros put behind them
 pub copied : (bytes out : List ℕ) {out' out'' : List ℕ} {r : ℕ} → length bytes ≤ length out → (out' ≡ overwrite out 0 bytes) × (r ≡ 0 + length bytes)
     → length out' ≡ length out → out'' ≡ padded (take r out') (length out') → ◌≡◌ {A = HandedOver} (record { number = 0; size = r; out = out'' }) (handed_over bytes out)
-unfolding handed_over
 copied bytes out {out'} {out''} {r} h e k g =
-    let f : take r out' ≡ bytes =
-    ap (λ (m : ℕ). take m out') e.1 ∙ ap (λ (m : List ℕ). take (0 + length bytes) m) e.0 ∙ take-overwrite out 0 bytes (omega arith) in
-    let i : out'' ≡ padded bytes (length out) = g ∙ ap (λ (m : List ℕ). padded m (length out')) f ∙ ap (λ (m : ℕ). padded bytes m) k in
     let j : r ≡ length bytes = omega (arith, e.1) in
-    ap (λ (m : ℕ). record { number = 0; size = m; out = out'' }) j
-    ∙ ap (λ (m : List ℕ). record { number = 0; size = length bytes; out = m }) i
-    ∙ sym (ap (λ (b : Bool). if_fits b bytes out) (le-leb (length bytes) (length out) h))
+    let f : take r out' ≡ bytes = ap (λ (m : ℕ). take m out') e.1 ∙ ap (λ (m : List ℕ). take (0 + length bytes) m) e.0 ∙ take-overwrite out 0 bytes (omega arith) in
+    let i : out'' ≡ padded bytes (length out) = g ∙ ap (λ (m : List ℕ). padded m (length out')) f ∙ ap (λ (m : ℕ). padded bytes m) k in
+    ap (λ (m : ℕ). record { number = 0; size = m; out = out'' }) j ∙ put_in bytes out h i
 
 -- a listing handed over, by the answer of the call that lists
-abbrev listed_number : Listed → ℕ
-listed_number (Whole k) = 0
-listed_number Short = 1
+abbrev listed_number : Maybe ℕ → ℕ
+listed_number (Some k) = 0
+listed_number None = 1
 
-abbrev listed_size : Listed → ℕ
-listed_size (Whole k) = k
-listed_size Short = 0
+abbrev listed_size : Maybe ℕ → ℕ
+listed_size (Some k) = k
+listed_size None = 0
 
-pub listed : (f out : List ℕ) {x : Listed} {out' : List ℕ} (v : Listed) → x ≡ v → ◌≡◌ {A = ListOutcome} (record { answer = x; out = out' }) (list_outcome f out)
+pub listed : (f out : List ℕ) {x : Maybe ℕ} {out' : List ℕ} (v : Maybe ℕ) → x ≡ v → ◌≡◌ {A = ListOutcome} (record { answer = x; out = out' }) (list_outcome f out)
     → ◌≡◌ {A = HandedOver} (record { number = listed_number v; size = listed_size v; out = out' }) (handed_over (listing f) out)
 unfolding handed_over list_outcome
 listed f out {x} {out'} v q e =
-    ap (λ (z : Listed). record { number = listed_number z; size = listed_size z; out = out' }) (sym q)
+    ap (λ (z : Maybe ℕ). record { number = listed_number z; size = listed_size z; out = out' }) (sym q)
     ∙ ap (λ (o : ListOutcome). record { number = listed_number o.answer; size = listed_size o.answer; out = o.out }) e
     ∙ go (leb (length (listing f)) (length out))
   where

@@ -1,5 +1,6 @@
 -- The numbers that tell answers apart: tables and a plan are refused with 1 to 18, an unfolding and a check with a refusal's number, and a replay that
 -- is not accepted ends in 31 to 33.
+use Rattle.std.specs.Prelude.{Ok, Err}
 use Prim.Native.Nat.{ℕ, suc, ◌+◌, ◌*◌, ◌-◌, ◌≤◌}
 use native.Mathlib.Omega.{arith}
 use mathlib.Core.Path.{◌≡◌, refl}
@@ -12,11 +13,11 @@ use borrow.Author.Tests.{leb-true}
 use Rattle.areas.specs.Area.{most_words}
 use Rattle.refusals.specs.declared.Place.TheVariants.{Nowhere, Byte, Triple, Step}
 use Rattle.refusals.specs.declared.Refusal.{Refusal}
-use Rattle.refusals.specs.Refusal.{refuse, or_else}
+use Rattle.refusals.specs.declared.Reason.TheVariants.{UnknownWord, TooFewOperands}
+use Rattle.refusals.specs.Refusal.{refuse, or_else, number_of}
 use Rattle.tables.specs.Search.{first_from, unless_met}
 use Rattle.tables.specs.Tables.{Tables, tables_length, most_actions, row_length, set_count, communication_at, priority_at, sets_at, entry_of, marked, actions, communication}
 use Rattle.tables.specs.Judging.{byte_right, set_right, null_right, swap_right, group_right, least_right, order_right, first_entry, first_triple, count_refusal, communication_entries, priority_entries, set_entries, communication_refusal, first_not_above, order_refusal, shared_entries, shared_refusal, content_refusal, table_refusal}
-use Rattle.plans.specs.declared.Turn.TheVariants.{Depth, Stop}
 use Rattle.plans.specs.Word.{word_of, operands_of}
 use Rattle.plans.specs.Judging.{no_word?, turn_of, on_turn, refusal_from, words_refusal, plan_refusal}
 use Rattle.laws.specs.Laws.{highest_law, same_bytes}
@@ -95,7 +96,8 @@ module _ (P : ℕ → Type 0) (low : (k : ℕ) → Range 18 k → P k) where
   from_numbers n p d (w ∷ ws) = go (no_word? (word_of n w)) (ltb d (operands_of w)) (λ e. from_numbers n (suc p) e ws)
     where
       go : (x y : Bool) → ((e : ℕ) → Numbered P (refusal_from n (suc p) e ws))
-          → Numbered P (on_turn (cond x (Stop 12) (cond y (Stop 13) (Depth (suc (d - operands_of w))))) (λ e. refusal_from n (suc p) e ws) (λ k. refuse k (Byte p)))
+          → Numbered P (on_turn (cond x (Err UnknownWord) (cond y (Err TooFewOperands) (Ok (suc (d - operands_of w))))) (λ e. refusal_from n (suc p) e ws)
+          (λ r. refuse (number_of r) (Byte p)))
       go true y h = low 12 (omega arith, omega arith)
       go false true h = low 13 (omega arith, omega arith)
       go false false h = h (suc (d - operands_of w))

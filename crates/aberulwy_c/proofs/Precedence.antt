@@ -1,4 +1,5 @@
 -- What is claimed of whether one action stands before another holds of the answer that the numbers tell: every refusal of it is 1 to 73.
+use Rattle.std.specs.Prelude.{Result, Ok, Err, Some, None, Option as Maybe}
 use Prim.Native.Nat.{ℕ}
 use native.Mathlib.Omega.{arith}
 use mathlib.Core.Path.{◌≡◌, sym, subst}
@@ -10,8 +11,6 @@ use Rattle.refusals.specs.Refusal.{refuse_if}
 use Rattle.tables.specs.Tables.{Tables, actions}
 use Rattle.plans.specs.Basic.{basic_words?}
 use Rattle.plans.specs.Judging.{plan_refusal}
-use Rattle.precedence.specs.declared.Precedence.{Precedence}
-use Rattle.precedence.specs.declared.Precedence.TheVariants.{Yes, No, Refused}
 use Rattle.precedence.specs.Overtaking.{overtaking}
 use Rattle.precedence.specs.Outcome.{not_a_pair?, precedence_refusal, unless_refused, precedence_answer, precedence_report, precedence_reported}
 use Rattle.precedence.specs.Claims.{PrecedenceClaims}
@@ -26,10 +25,10 @@ use Rattle.aberulwy_c.proofs.Ranges.{Range, widened, Numbered, numbered_or, numb
 abbrev Number : ℕ → Type 0
 Number = Range 73
 
-abbrev AnswerRange : Precedence → Type 0
-AnswerRange Yes = Unit
-AnswerRange (No p) = Unit
-AnswerRange (Refused f) = Number f.number
+abbrev AnswerRange : Result (Maybe ℕ) Refusal → Type 0
+AnswerRange (Ok None) = Unit
+AnswerRange (Ok (Some p)) = Unit
+AnswerRange (Err f) = Number f.number
 
 unless_range : (o : Option Refusal) (p : Option ℕ) → Numbered Number o → AnswerRange (unless_refused o p)
 unless_range (some f) p r = r
@@ -45,13 +44,13 @@ module _ (t : Tables) (plan : List ℕ) (first second : ℕ) where
       (numbered_or Number (refuse_if (not_a_pair? (actions t) first second) 73) _ (numbered-if Number (not_a_pair? (actions t) first second) 73 (omega arith, omega arith))
       (numbered-if Number (not (basic_words? (actions t) plan)) 70 (omega arith, omega arith))))
 
-  preceded_as : (x : Precedence) → AnswerRange x → {n p y a : ℕ} → Answered (precedence_report x) n p y a → PrecededAs x n p y a
-  preceded_as Yes r h = rw (h.number, h.place, h.first, h.second) is_so
-  preceded_as (No q) r h = rw (h.number, h.place, h.first, h.second) (not_so q)
-  preceded_as (Refused f) r h = rw (h.number, h.place, h.first, h.second) (refused f r.0 r.1)
+  preceded_as : (x : Result (Maybe ℕ) Refusal) → AnswerRange x → {n p y a : ℕ} → Answered (precedence_report x) n p y a → PrecededAs x n p y a
+  preceded_as (Ok None) r h = rw (h.number, h.place, h.first, h.second) is_so
+  preceded_as (Ok (Some q)) r h = rw (h.number, h.place, h.first, h.second) (not_so q)
+  preceded_as (Err f) r h = rw (h.number, h.place, h.first, h.second) (refused f r.0 r.1)
 
   -- all that the call promises, by the promises of the call below
-  pub precedence_seen : {x : Precedence} {n p y a : ℕ}
+  pub precedence_seen : {x : Result (Maybe ℕ) Refusal} {n p y a : ℕ}
       → (x ≡ precedence_answer t plan first second) × ((precedence_report x ≡ precedence_reported t plan first second) × PrecedenceClaims t plan first second x)
       → Answered (precedence_report x) n p y a
       → (◌≡◌ {A = Returned} (record { number = n; place = p; values = y ∷ a ∷ []; areas = [] }) (returned 2 (precedence_reported t plan first second) []))

@@ -1,4 +1,5 @@
 -- The claims of the calls below hold of what C and Rust see of them.
+use Rattle.std.specs.Prelude.{Result, Ok, Err, Some, None, Option as Maybe}
 use Prim.Native.Nat.{ℕ, ◌≤◌}
 use native.Mathlib.Omega.{arith}
 use mathlib.Core.Path.{◌≡◌, refl, sym, ◌∙◌, ap, subst}
@@ -22,19 +23,17 @@ use Rattle.plans.proofs.Accepted.{accepted-plan, basic_plan}
 use Rattle.paths.specs.Counts.{CountClaims}
 use Rattle.paths.proofs.Counts.{counts-claimed}
 use Rattle.unfolding.specs.declared.Unfolded.{Unfolded}
-use Rattle.unfolding.specs.declared.Unfolded.TheVariants.{Finished, Stopped, Refused as NotUnfolded}
+use Rattle.unfolding.specs.declared.Unfolded.TheVariants.{Finished, Stopped}
 use Rattle.rewritings.specs.Runs.{Run, run_of}
 use Rattle.unfolding.specs.Unfolding.{unfold_refusal, unfold_outcome, UnfoldOutcome}
 use Rattle.unfolding.specs.Unfolding as unfolding_of
 use Rattle.checking.specs.declared.Checked.{Checked}
-use Rattle.checking.specs.declared.Checked.TheVariants.{Accepted, TurnedBack, Refused as CheckRefused}
+use Rattle.checking.specs.declared.Checked.TheVariants.{Accepted, TurnedBack}
 use Rattle.checking.specs.Checking.{Replay, replay_of, check_refusal, check_outcome, CheckOutcome}
 use Rattle.checking.specs.Checking as checking_of
 use Rattle.rewritings.specs.Records.{records_of}
 use Rattle.demands.specs.Reports.{unfold_given, Stops, allowance_spent, list_full, next_too_long, own_rewriting}
 use Rattle.demands.specs.Claims.{check_given, UnfoldClaims, CheckClaims, StepClaims}
-use Rattle.aberulwy.specs.declared.OwnCheck.{OwnCheck}
-use Rattle.aberulwy.specs.declared.OwnCheck.TheVariants.{Checked as OwnChecked, NotChecked}
 use Rattle.aberulwy.specs.Judging.{bit, basic_reported, orders_reported}
 use Rattle.aberulwy.specs.Rewriting.{unfold_report, check_report, own_report, check_own, both_outcome, BothOutcome, OwnAccepted}
 use Rattle.aberulwy_c.specs.Answers.{Returned, returned}
@@ -46,10 +45,10 @@ use Rattle.aberulwy_c.proofs.Numbers.{table_numbers, plan_numbers, unfold_number
 use Rattle.aberulwy_c.proofs.Ranges.{Range, Numbered}
 
 untrue : {A : Type 0} → false ≡ true → A
-untrue e = let z : ◌≡◌ {A = ℕ} 0 1 = cc in absurd (omega arith)
+untrue e = absurd (cc)
 
 refusing : {A : Type 0} {r : Refusal} → ◌≡◌ {A = Option Refusal} (some r) none → A
-refusing e = let z : ◌≡◌ {A = ℕ} 0 1 = cc in absurd (omega arith)
+refusing e = absurd (cc)
 
 -- 0 is answered exactly where nothing is refused
 zero_accepts : (o : Option Refusal) (v : List ℕ) (P : Type 0) {n p x y : ℕ} → Numbered (Range 18) o → (o ≡ none) ↔ P → Answered (reported o v) n p x y → (n ≡ 0) ↔ P
@@ -98,28 +97,28 @@ ending_range (list_full s e i j) = (omega arith, omega arith)
 ending_range (next_too_long s e i j l) = (omega arith, omega arith)
 
 -- what an unfolding's answer can be
-abbrev UnfoldRange : Unfolded → Type 0
+abbrev UnfoldRange : Result Unfolded Refusal → Type 0
 UnfoldRange x =
-    ((k s z : ℕ) → x ≡ Stopped k s z → (34 ≤ k) × (k ≤ 36)) × ((f : Refusal) → x ≡ NotUnfolded f → RefusalNumber f.number)
+    ((k s z : ℕ) → x ≡ Ok (Stopped k s z) → (34 ≤ k) × (k ≤ 36)) × ((f : Refusal) → x ≡ Err f → RefusalNumber f.number)
 
-unfolded_as : (x : Unfolded) → UnfoldRange x → {n p v w : ℕ} → Answered (unfold_report x) n p v w → UnfoldedAs x n p v w
-unfolded_as (Finished s z) r a = rw (a.number, a.place, a.first, a.second) (seen_as.UnfoldedAs.finished s z)
-unfolded_as (Stopped k s z) r a =
+unfolded_as : (x : Result Unfolded Refusal) → UnfoldRange x → {n p v w : ℕ} → Answered (unfold_report x) n p v w → UnfoldedAs x n p v w
+unfolded_as (Ok (Finished s z)) r a = rw (a.number, a.place, a.first, a.second) (seen_as.UnfoldedAs.finished s z)
+unfolded_as (Ok (Stopped k s z)) r a =
     let i = r.0 k s z refl in
     rw (a.number, a.place, a.first, a.second) (seen_as.UnfoldedAs.stopped k s z i.0 i.1)
-unfolded_as (NotUnfolded f) r a = rw (a.number, a.place, a.first, a.second) (seen_as.UnfoldedAs.refused f (r.1 f refl))
+unfolded_as (Err f) r a = rw (a.number, a.place, a.first, a.second) (seen_as.UnfoldedAs.refused f (r.1 f refl))
 
 module _ (t : Tables) (plan : List ℕ) (m : ℕ) (list a b : List ℕ) where
   run_not_refused : (c : Bool) (r : Run) (f : Refusal)
-      → cond c (Finished r.steps (length r.plan)) (Stopped r.number r.steps (length r.plan)) ≡ NotUnfolded f → ⊥
-  run_not_refused true r f e = let z : ◌≡◌ {A = ℕ} 0 1 = cc in omega arith
-  run_not_refused false r f e = let z : ◌≡◌ {A = ℕ} 0 1 = cc in omega arith
+      → cond c (Ok (Finished r.steps (length r.plan))) (Ok (Stopped r.number r.steps (length r.plan))) ≡ Err f → ⊥
+  run_not_refused true r f e = cc
+  run_not_refused false r f e = cc
 
-  refused-number : (f : Refusal) → (unfold_outcome t plan m list a b).answer ≡ NotUnfolded f → RefusalNumber f.number
+  refused-number : (f : Refusal) → (unfold_outcome t plan m list a b).answer ≡ Err f → RefusalNumber f.number
   unfolding unfold_outcome
   refused-number f = go (unfold_refusal t plan (capacity a b)) (run_of t plan m (length list) (capacity a b)) (unfold_numbers t plan (capacity a b))
     where
-      go : (o : Option Refusal) (r : Run) → Numbered RefusalNumber o → (unfolding_of.unless_refused o r list a b).answer ≡ NotUnfolded f → RefusalNumber f.number
+      go : (o : Option Refusal) (r : Run) → Numbered RefusalNumber o → (unfolding_of.unless_refused o r list a b).answer ≡ Err f → RefusalNumber f.number
       go none r l e = absurd (run_not_refused (eqb r.number 0) r f e)
       go (some g) r l e = let q : g ≡ f = cc in rw (← q) l
 
@@ -133,7 +132,7 @@ module _ (t : Tables) (plan : List ℕ) (m : ℕ) (list a b : List ℕ) where
       → UnfoldedAs o.answer n p v w
   unfold_as o e k h = unfolded_as o.answer (unfold_range o e k) h
 
-  pub unfold_seen : {x : Unfolded} {l y z : List ℕ} {n p v w : ℕ} → record { answer = x; list = l; a = y; b = z } ≡ unfold_outcome t plan m list a b
+  pub unfold_seen : {x : Result Unfolded Refusal} {l y z : List ℕ} {n p v w : ℕ} → record { answer = x; list = l; a = y; b = z } ≡ unfold_outcome t plan m list a b
       → UnfoldClaims (unfold_given t plan m list a b) (record { answer = x; list = l; a = y; b = z }) → Answered (unfold_report x) n p v w → UnfoldSeen (unfold_given t plan m list a b) l y z n p v w
   unfold_seen {x} {l} {y} {z} e k h =
       record { answer = x; seen = unfold_as (record { answer = x; list = l; a = y; b = z }) e k h; claims = k }
@@ -141,28 +140,28 @@ module _ (t : Tables) (plan : List ℕ) (m : ℕ) (list a b : List ℕ) where
 -- Checks
 
 -- what a check's answer can be
-abbrev CheckRange : Checked → Type 0
+abbrev CheckRange : Result Checked Refusal → Type 0
 CheckRange x =
-    ((k s z : ℕ) → x ≡ TurnedBack k s z → (31 ≤ k) × (k ≤ 33)) × ((f : Refusal) → x ≡ CheckRefused f → RefusalNumber f.number)
+    ((k s z : ℕ) → x ≡ Ok (TurnedBack k s z) → (31 ≤ k) × (k ≤ 33)) × ((f : Refusal) → x ≡ Err f → RefusalNumber f.number)
 
-checked_as : (x : Checked) → CheckRange x → {n p v w : ℕ} → Answered (check_report x) n p v w → CheckedAs x n p v w
-checked_as (Accepted s z) r a = rw (a.number, a.place, a.first, a.second) (seen_as.CheckedAs.accepted s z)
-checked_as (TurnedBack k s z) r a =
+checked_as : (x : Result Checked Refusal) → CheckRange x → {n p v w : ℕ} → Answered (check_report x) n p v w → CheckedAs x n p v w
+checked_as (Ok (Accepted s z)) r a = rw (a.number, a.place, a.first, a.second) (seen_as.CheckedAs.accepted s z)
+checked_as (Ok (TurnedBack k s z)) r a =
     let i = r.0 k s z refl in
     rw (a.number, a.place, a.first, a.second) (seen_as.CheckedAs.turned_back k s z i.0 i.1)
-checked_as (CheckRefused f) r a = rw (a.number, a.place, a.first, a.second) (seen_as.CheckedAs.refused f (r.1 f refl))
+checked_as (Err f) r a = rw (a.number, a.place, a.first, a.second) (seen_as.CheckedAs.refused f (r.1 f refl))
 
 module _ (t : Tables) (start claimed rewriting a b : List ℕ) where
   replay_range : (c : Bool) (r : Replay) → eqb r.number 0 ≡ c → ends? r.number ≡ true
-      → CheckRange (cond c (Accepted r.steps (length r.plan)) (TurnedBack r.number r.steps (length r.plan)))
+      → CheckRange (cond c (Ok (Accepted r.steps (length r.plan))) (Ok (TurnedBack r.number r.steps (length r.plan))))
   replay_range true r q l = (
-    λ k s z e. let i : ◌≡◌ {A = ℕ} 0 1 = cc in absurd (omega arith),
-    λ f e. let i : ◌≡◌ {A = ℕ} 0 1 = cc in absurd (omega arith),
+    λ k s z e. absurd (cc),
+    λ f e. absurd (cc),
   )
   replay_range false r q l =
       let h : turned r.number ≡ true = rw q at l in (
         λ k s z e. let i : r.number ≡ k = cc in rw (← i) (turned_range r.number h),
-        λ f e. let i : ◌≡◌ {A = ℕ} 0 1 = cc in absurd (omega arith),
+        λ f e. absurd (cc),
       )
 
   pub check_range : CheckRange (check_outcome t start claimed rewriting a b).answer
@@ -174,14 +173,14 @@ module _ (t : Tables) (start claimed rewriting a b : List ℕ) where
       go : (o : Option Refusal) (r : Replay) → Numbered RefusalNumber o → ends? r.number ≡ true → CheckRange (checking_of.unless_refused o r a b).answer
       go none r l h = replay_range (eqb r.number 0) r refl h
       go (some g) r l h = (
-        λ k s z e. let i : ◌≡◌ {A = ℕ} 0 1 = cc in absurd (omega arith),
+        λ k s z e. absurd (cc),
         λ f e. let q : g ≡ f = cc in rw (← q) l,
       )
 
   check_as : (o : CheckOutcome) {n p v w : ℕ} → o ≡ check_outcome t start claimed rewriting a b → Answered (check_report o.answer) n p v w → CheckedAs o.answer n p v w
   check_as o e h = checked_as o.answer (subst (λ (x : CheckOutcome). CheckRange x.answer) (sym e) check_range) h
 
-  pub check_seen : {x : Checked} {y z : List ℕ} {n p v w : ℕ} → record { answer = x; a = y; b = z } ≡ check_outcome t start claimed rewriting a b
+  pub check_seen : {x : Result Checked Refusal} {y z : List ℕ} {n p v w : ℕ} → record { answer = x; a = y; b = z } ≡ check_outcome t start claimed rewriting a b
       → CheckClaims (check_given t start claimed rewriting a b) (record { answer = x; a = y; b = z })
       × StepClaims (check_given t start claimed rewriting a b) (record { answer = x; a = y; b = z }) → Answered (check_report x) n p v w
       → CheckSeen (check_given t start claimed rewriting a b) y z n p v w
@@ -190,23 +189,23 @@ module _ (t : Tables) (start claimed rewriting a b : List ℕ) where
 
 -- Both
 
-abbrev OwnRange : OwnCheck → Type 0
-OwnRange w = (x : Checked) → w ≡ OwnChecked x → CheckRange x
+abbrev OwnRange : Maybe (Result Checked Refusal) → Type 0
+OwnRange w = (x : Result Checked Refusal) → w ≡ Some x → CheckRange x
 
-own_as : (w : OwnCheck) → OwnRange w → {m n p x y : ℕ} → MaybeAnswered (own_report w) m n p x y → OwnAs w m n p x y
-own_as (OwnChecked v) r {m} {n} {p} {x} {y} a = rw a.made (made v n p x y (checked_as v (r v refl) a.answered))
-own_as NotChecked r a = rw (a.made, a.answered.number, a.answered.place, a.answered.first, a.answered.second) not_made
+own_as : (w : Maybe (Result Checked Refusal)) → OwnRange w → {m n p x y : ℕ} → MaybeAnswered (own_report w) m n p x y → OwnAs w m n p x y
+own_as (Some v) r {m} {n} {p} {x} {y} a = rw a.made (made v n p x y (checked_as v (r v refl) a.answered))
+own_as None r a = rw (a.made, a.answered.number, a.answered.place, a.answered.first, a.answered.second) not_made
 
 module _ (t : Tables) (plan : List ℕ) (m : ℕ) (list a b c d : List ℕ) where
-  own_range : (o : UnfoldOutcome) (x : Unfolded) → OwnRange (check_own t plan o x c d).answer
+  own_range : (o : UnfoldOutcome) (x : Result Unfolded Refusal) → OwnRange (check_own t plan o x c d).answer
   unfolding check_own
-  own_range o (Finished s z) v e =
+  own_range o (Ok (Finished s z)) v e =
       let q : (check_outcome t plan (reached_part (even? s) z o.a o.b) (own_rewriting s o.list) c d).answer ≡ v = cc in
       subst CheckRange q (check_range t plan (reached_part (even? s) z o.a o.b) (own_rewriting s o.list) c d)
-  own_range o (Stopped k s z) v e =
+  own_range o (Ok (Stopped k s z)) v e =
       let q : (check_outcome t plan (reached_part (even? s) z o.a o.b) (own_rewriting s o.list) c d).answer ≡ v = cc in
       subst CheckRange q (check_range t plan (reached_part (even? s) z o.a o.b) (own_rewriting s o.list) c d)
-  own_range o (NotUnfolded f) v e = let i : ◌≡◌ {A = ℕ} 0 1 = cc in absurd (omega arith)
+  own_range o (Err f) v e = absurd (cc)
 
   pub both_seen : (o : BothOutcome) (n : BothNumbers) → o ≡ both_outcome t plan m list a b c d
       → UnfoldClaims (unfold_given t plan m list a b) o.unfolded × OwnAccepted o.unfolded.answer o.own.answer a b c d

@@ -1,5 +1,6 @@
 -- What is claimed of reading and of writing a station file holds of the answers that the numbers tell: every refusal of reading is 1 to 55, and of writing
 -- 1 to 74.
+use Rattle.std.specs.Prelude.{Result, Ok, Err}
 use Prim.Native.Nat.{ℕ}
 use native.Mathlib.Omega.{arith}
 use mathlib.Core.Path.{◌≡◌, sym, ap}
@@ -14,11 +15,7 @@ use Rattle.refusals.specs.declared.Refusal.{Refusal}
 use Rattle.tables.specs.Tables.{Tables}
 use Rattle.blocks.specs.Block.{number_of, sum_right, use_right, block_refusal}
 use Rattle.plans.specs.Judging.{plan_refusal}
-use Rattle.stations.specs.declared.StationRead.{StationRead}
-use Rattle.stations.specs.declared.StationRead.TheVariants.{Read, Refused as NotRead}
 use Rattle.stations.specs.File.{blocks, block, length_right, tables_held, plan_held, form_refusal, held_refusal, file_refusal, unless_refused, StationOutcome, station_outcome, station_report}
-use Rattle.writing.specs.declared.StationWritten.{StationWritten}
-use Rattle.writing.specs.declared.StationWritten.TheVariants.{Written, Refused}
 use Rattle.writing.specs.Writing.{station_file, file_length, write_refusal, written_unless, WriteOutcome, write_outcome, written_report}
 use Rattle.writing.specs.Claims.{ReadClaims, WriteClaims}
 use Rattle.aberulwy_c.specs.Handing.{Answered}
@@ -56,19 +53,19 @@ module _ (f t p : List ℕ) where
       (numbered_or Reading (refuse_unless fits 55) (plan_refusal (tables_held f) (plan_held f)) (unmet_number fits 55 (omega arith, omega arith))
       (plan_numbers Reading (widened 55 (omega arith)) (tables_held f) (plan_held f)))
 
-  not_read_range : (r : Refusal) → (station_outcome f t p).answer ≡ NotRead r → Reading r.number
+  not_read_range : (r : Refusal) → (station_outcome f t p).answer ≡ Err r → Reading r.number
   unfolding station_outcome
   not_read_range r = go (file_refusal f (length t) (length p)) read_range
     where
-      go : (o : Option Refusal) → Numbered Reading o → (unless_refused o (tables_held f) (plan_held f) t p).answer ≡ NotRead r → Reading r.number
-      go none x e = let z : ◌≡◌ {A = ℕ} 0 1 = cc in absurd (omega arith)
+      go : (o : Option Refusal) → Numbered Reading o → (unless_refused o (tables_held f) (plan_held f) t p).answer ≡ Err r → Reading r.number
+      go none x e = absurd (cc)
       go (some g) x e = let q : g ≡ r = cc in rw (← q) x
 
-  read_as : (x : StationRead) → (station_outcome f t p).answer ≡ x → {n q v w : ℕ} → Answered (station_report x) n q v w → StationReadAs x n q v
-  read_as (Read size) e h = rw (h.number, h.place, h.first) (read size)
-  read_as (NotRead r) e h = let i = not_read_range r e in rw (h.number, h.place, h.first) (refused r i.0 i.1)
+  read_as : (x : Result ℕ Refusal) → (station_outcome f t p).answer ≡ x → {n q v w : ℕ} → Answered (station_report x) n q v w → StationReadAs x n q v
+  read_as (Ok size) e h = rw (h.number, h.place, h.first) (read size)
+  read_as (Err r) e h = let i = not_read_range r e in rw (h.number, h.place, h.first) (refused r i.0 i.1)
 
-  pub station_read-seen : {x : StationRead} {t' p' : List ℕ} {n q v w : ℕ} → record { answer = x; tables = t'; plan = p' } ≡ station_outcome f t p
+  pub station_read-seen : {x : Result ℕ Refusal} {t' p' : List ℕ} {n q v w : ℕ} → record { answer = x; tables = t'; plan = p' } ≡ station_outcome f t p
       → ReadClaims f t p (record { answer = x; tables = t'; plan = p' }) → Answered (station_report x) n q v w → StationReadSeen f t p t' p' n q v
   station_read-seen {x} e k h = record { answer = x; seen = read_as x (sym (ap (λ (o : StationOutcome). o.answer) e)) h; claims = k }
 
@@ -81,19 +78,19 @@ module _ (t : Tables) (ws a : List ℕ) where
       numbered_or Writing (plan_refusal t ws) _ (plan_numbers Writing (widened 74 (omega arith)) t ws)
       (numbered-if Writing (ltb (length a) (file_length (length ws))) 74 (omega arith, omega arith))
 
-  not_written_range : (r : Refusal) → (write_outcome t ws a).answer ≡ Refused r → Writing r.number
+  not_written_range : (r : Refusal) → (write_outcome t ws a).answer ≡ Err r → Writing r.number
   unfolding write_outcome
   not_written_range r = go (write_refusal t ws (length a)) write_range
     where
-      go : (o : Option Refusal) → Numbered Writing o → (written_unless o (file_length (length ws)) (station_file t ws) a).answer ≡ Refused r
+      go : (o : Option Refusal) → Numbered Writing o → (written_unless o (file_length (length ws)) (station_file t ws) a).answer ≡ Err r
           → Writing r.number
-      go none x e = let z : ◌≡◌ {A = ℕ} 0 1 = cc in absurd (omega arith)
+      go none x e = absurd (cc)
       go (some g) x e = let q : g ≡ r = cc in rw (← q) x
 
-  written_as : (x : StationWritten) → (write_outcome t ws a).answer ≡ x → {n q v w : ℕ} → Answered (written_report x) n q v w → StationWrittenAs x n q v
-  written_as (Written size) e h = rw (h.number, h.place, h.first) (written size)
-  written_as (Refused r) e h = let i = not_written_range r e in rw (h.number, h.place, h.first) (refused r i.0 i.1)
+  written_as : (x : Result ℕ Refusal) → (write_outcome t ws a).answer ≡ x → {n q v w : ℕ} → Answered (written_report x) n q v w → StationWrittenAs x n q v
+  written_as (Ok size) e h = rw (h.number, h.place, h.first) (written size)
+  written_as (Err r) e h = let i = not_written_range r e in rw (h.number, h.place, h.first) (refused r i.0 i.1)
 
-  pub station_written-seen : {x : StationWritten} {a' : List ℕ} {n q v w : ℕ} → record { answer = x; area = a' } ≡ write_outcome t ws a
+  pub station_written-seen : {x : Result ℕ Refusal} {a' : List ℕ} {n q v w : ℕ} → record { answer = x; area = a' } ≡ write_outcome t ws a
       → WriteClaims t ws a (record { answer = x; area = a' }) → Answered (written_report x) n q v w → StationWrittenSeen t ws a a' n q v
   station_written-seen {x} e k h = record { answer = x; seen = written_as x (sym (ap (λ (o : WriteOutcome). o.answer) e)) h; claims = k }

@@ -1,4 +1,5 @@
 -- What is claimed of reading a text holds of the answer that the numbers tell: every refusal of it is 1 to 63.
+use Rattle.std.specs.Prelude.{Result, Ok, Err}
 use Prim.Native.Nat.{ℕ}
 use native.Mathlib.Omega.{arith}
 use mathlib.Core.Path.{◌≡◌, refl, sym, ap}
@@ -15,8 +16,6 @@ use Rattle.tables.specs.Tables.{Tables, actions}
 use Rattle.tables.specs.Judging.{table_refusal}
 use Rattle.grammar.specs.Reading.{Parse, Plan, Fault, read_text}
 use Rattle.grammar.proofs.Places.{read_number}
-use Rattle.texts.specs.declared.TextRead.{TextRead}
-use Rattle.texts.specs.declared.TextRead.TheVariants.{Read, Refused}
 use Rattle.texts.specs.Text.{found_refusal, plan_of, text_refusal, TextOutcome, unless_refused, text_outcome, text_report}
 use Rattle.texts.specs.Claims.{TextClaims}
 use Rattle.aberulwy_c.specs.Handing.{Answered}
@@ -38,18 +37,18 @@ module _ (t : Tables) (text area : List ℕ) where
   unfolding text_refusal
   range = numbered_or Number (table_refusal t) _ (table_numbers Number (widened 63 (omega arith)) t) (range_found (actions t) (length area) text (read_text (actions t) text) refl)
 
-  refused_range : (f : Refusal) → (text_outcome t text area).answer ≡ Refused f → Number f.number
+  refused_range : (f : Refusal) → (text_outcome t text area).answer ≡ Err f → Number f.number
   unfolding text_outcome
   refused_range f = go (text_refusal t text (length area)) range
     where
-      go : (o : Option Refusal) → Numbered Number o → (unless_refused o (plan_of (read_text (actions t) text)) area).answer ≡ Refused f → Number f.number
-      go none r e = let z : ◌≡◌ {A = ℕ} 0 1 = cc in absurd (omega arith)
+      go : (o : Option Refusal) → Numbered Number o → (unless_refused o (plan_of (read_text (actions t) text)) area).answer ≡ Err f → Number f.number
+      go none r e = absurd (cc)
       go (some g) r e = let q : g ≡ f = cc in rw (← q) r
 
-  read_as : (x : TextRead) → (text_outcome t text area).answer ≡ x → {n p v w : ℕ} → Answered (text_report x) n p v w → TextReadAs x n p v
-  read_as (Read size) e h = rw (h.number, h.place, h.first) (read size)
-  read_as (Refused f) e h = let r = refused_range f e in rw (h.number, h.place, h.first) (refused f r.0 r.1)
+  read_as : (x : Result ℕ Refusal) → (text_outcome t text area).answer ≡ x → {n p v w : ℕ} → Answered (text_report x) n p v w → TextReadAs x n p v
+  read_as (Ok size) e h = rw (h.number, h.place, h.first) (read size)
+  read_as (Err f) e h = let r = refused_range f e in rw (h.number, h.place, h.first) (refused f r.0 r.1)
 
-  pub text_seen : {x : TextRead} {left : List ℕ} {n p v w : ℕ} → record { answer = x; plan = left } ≡ text_outcome t text area
+  pub text_seen : {x : Result ℕ Refusal} {left : List ℕ} {n p v w : ℕ} → record { answer = x; plan = left } ≡ text_outcome t text area
       → TextClaims t text area (record { answer = x; plan = left }) → Answered (text_report x) n p v w → TextSeen t text area left n p v
   text_seen {x} e k h = record { answer = x; seen = read_as x (sym (ap (λ (o : TextOutcome). o.answer) e)) h; claims = k }

@@ -1,4 +1,5 @@
 -- What is claimed of the calls of a walk holds of the answer that the numbers tell: every refusal of them is 1 to 72.
+use Rattle.std.specs.Prelude.{Result, Ok, Err, ⊤}
 use Prim.Native.Nat.{ℕ}
 use native.Mathlib.Omega.{arith}
 use mathlib.Core.Path.{◌≡◌, sym, ap, subst}
@@ -8,8 +9,6 @@ use mathlib.Core.Option.{Option, none, some}
 use lib.Dec.{eqb}
 use lib.ListN.{length}
 use Rattle.refusals.specs.declared.Refusal.{Refusal}
-use Rattle.refusals.specs.declared.Judgement.{Judgement}
-use Rattle.refusals.specs.declared.Judgement.TheVariants.{Accepted, Refused}
 use Rattle.refusals.specs.Refusal.{printed, refuse_if}
 use Rattle.tables.specs.Tables.{Tables, actions, outside?}
 use Rattle.plans.specs.Basic.{basic_words?}
@@ -35,9 +34,9 @@ walk_ranges t plan marks =
     (numbered-if Number (not (basic_words? (actions t) plan) || not (eqb (length marks) (length plan))) 70 (omega arith, omega arith))
 
 -- of an answer
-abbrev AnswerRange : Judgement → Type 0
-AnswerRange Accepted = Unit
-AnswerRange (Refused f) = Number f.number
+abbrev AnswerRange : Result ⊤ Refusal → Type 0
+AnswerRange (Ok tt) = Unit
+AnswerRange (Err f) = Number f.number
 
 unless_range : (o : Option Refusal) (p : Progress) (x : WalkOutcome) → Numbered Number o → AnswerRange x.answer → AnswerRange (unless_refused o p x).answer
 unless_range none p x r s = s
@@ -55,21 +54,21 @@ walk_range t plan m p =
     (numbered_or Number (refuse_if (outside? (actions t) m) 71) _ (numbered-if Number (outside? (actions t) m) 71 (omega arith, omega arith))
     (numbered-if Number (not_taken? (take_message (actions t) plan m p)) 72 (omega arith, omega arith)))) tt
 
-walked_as : (x : Judgement) → AnswerRange x → {b : Bool} {h n p f : ℕ} → WalkAnswered x b h n p f → WalkedAs x n p
-walked_as Accepted r a = rw (a.number, a.place) accepted
-walked_as (Refused g) r a = rw (a.number, a.place) (refused g r.0 r.1)
+walked_as : (x : Result ⊤ Refusal) → AnswerRange x → {b : Bool} {h n p f : ℕ} → WalkAnswered x b h n p f → WalkedAs x n p
+walked_as (Ok tt) r a = rw (a.number, a.place) accepted
+walked_as (Err g) r a = rw (a.number, a.place) (refused g r.0 r.1)
 
 -- in the arm of a refusal
-pub hand_refused : {x : Judgement} (g : Refusal) {b : Bool} {h n p f : ℕ} → x ≡ Refused g → f ≡ h → (n ≡ g.number) × (p ≡ printed g.place) → WalkAnswered x b h n p f
+pub hand_refused : {x : Result ⊤ Refusal} (g : Refusal) {b : Bool} {h n p f : ℕ} → x ≡ Err g → f ≡ h → (n ≡ g.number) × (p ≡ printed g.place) → WalkAnswered x b h n p f
 hand_refused g e q k = rw e (record { number = k.0; place = k.1; finish = q })
 
 -- what is returned, by the outcome of the call below
-pub walk_returned_as : {o : WalkOutcome} {x : Judgement} {marks : List ℕ} {b : Bool} {h n p f : ℕ} → record { answer = x; progress = record { marks = marks; finish = b } } ≡ o
+pub walk_returned_as : {o : WalkOutcome} {x : Result ⊤ Refusal} {marks : List ℕ} {b : Bool} {h n p f : ℕ} → record { answer = x; progress = record { marks = marks; finish = b } } ≡ o
     → WalkAnswered x b h n p f → ◌≡◌ {A = Returned} (record { number = n; place = p; values = f ∷ []; areas = marks ∷ [] }) (of_walk h o)
 walk_returned_as {h = h} e a = rw (a.number, a.place, a.finish) (ap (of_walk h) e)
 
 module _ (t : Tables) (plan marks : List ℕ) where
-  pub fresh-seen : {x : Judgement} {left : List ℕ} {b : Bool} {h n p f : ℕ} → record { answer = x; progress = record { marks = left; finish = b } } ≡ fresh_outcome t plan (lent marks h)
+  pub fresh-seen : {x : Result ⊤ Refusal} {left : List ℕ} {b : Bool} {h n p f : ℕ} → record { answer = x; progress = record { marks = left; finish = b } } ≡ fresh_outcome t plan (lent marks h)
       → FreshClaims t plan (lent marks h) (record { answer = x; progress = record { marks = left; finish = b } }) → WalkAnswered x b h n p f
       → FreshSeen t plan marks left h n p f
   fresh-seen {x} {b = b} {h = h} e k a =
@@ -81,7 +80,7 @@ module _ (t : Tables) (plan marks : List ℕ) where
         claims = k;
       }
 
-  pub walk-seen : (m : ℕ) {x : Judgement} {left : List ℕ} {b : Bool} {h n p f : ℕ} → record { answer = x; progress = record { marks = left; finish = b } } ≡ walk_outcome t plan m (lent marks h)
+  pub walk-seen : (m : ℕ) {x : Result ⊤ Refusal} {left : List ℕ} {b : Bool} {h n p f : ℕ} → record { answer = x; progress = record { marks = left; finish = b } } ≡ walk_outcome t plan m (lent marks h)
       → WalkClaims t plan m (lent marks h) (record { answer = x; progress = record { marks = left; finish = b } }) → WalkAnswered x b h n p f
       → WalkSeen t plan marks left m h n p f
   walk-seen m {x} {b = b} {h = h} e k a =

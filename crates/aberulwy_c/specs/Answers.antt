@@ -1,11 +1,10 @@
 -- What the calls for C and Rust answer and leave: a number, out numbers, and lent areas. (01, "Turned back by what was handed in".)
+use Rattle.refusals.specs.declared.Refusal.{Refusal}
 use Prim.Native.Nat.{ℕ, zero, suc}
-use Rattle.std.specs.Prelude.{Bool, true, false, not, length, eqb, leb}
+use Rattle.std.specs.Prelude.{Bool, true, false, not, length, eqb, leb, Result, Ok, Err, ⊤}
 use mathlib.Core.List.{List, [], ◌∷◌, ◌++◌}
 use Rattle.std.proofs.Math.Option.{Option, none, some}
 use Rattle.areas.specs.Area.{padded}
-use Rattle.refusals.specs.declared.Judgement.{Judgement}
-use Rattle.refusals.specs.declared.Judgement.TheVariants.{Accepted, Refused}
 use Rattle.refusals.specs.Refusal.{Report, report}
 use Rattle.tables.specs.Tables.{Tables}
 use Rattle.unfolding.specs.Unfolding.{unfold_outcome, UnfoldOutcome}
@@ -83,9 +82,9 @@ abbrev pub fixed_returned : Tables → List ℕ → List ℕ → Returned
 fixed_returned tables plan area = of_fixed (form_outcome tables plan area)
 
 -- 1 or 0 for whether a finish is reached, and under a refusal the number that was held
-abbrev pub finish_left : Judgement → ℕ → Bool → ℕ
-finish_left Accepted held finish = bit finish
-finish_left (Refused r) held finish = held
+abbrev pub finish_left : Result ⊤ Refusal → ℕ → Bool → ℕ
+finish_left (Ok tt) held finish = bit finish
+finish_left (Err r) held finish = held
 
 -- a walk: the number of the finish; the marks
 abbrev pub of_walk : ℕ → WalkOutcome → Returned

@@ -1,10 +1,11 @@
 // The public calls for C and Rust: numbers and byte slices only. Each answers a number of docs/NUMBERS.md and sets every out number (`finished` of a
 // walk is not one: it is lent, and a refusal leaves it); the two that only hand bytes over, `aberulwy_reached` and `aberulwy_list_station`, answer 0, or 1
-// where the area is too short. `whole` says everything that a call answers, sets and leaves; further clauses say what is claimed of it.
+// where the area is too short. The many out parameters are the interface of C, whose calls answer one number. `whole` says everything that a call
+// answers, sets and leaves; further clauses say what is claimed of it.
 #![tactic(auto)]
 
 ghost use Rattle.std.specs.Prelude.{◌≡◌, ◌∷◌, [], ◌↔◌, ◌≤◌, length};
-ghost use Rattle.refusals.specs.Refusal.{printed, reported};
+ghost use Rattle.refusals.specs.Refusal.{printed, report, reported};
 ghost use Rattle.areas.specs.Reached.{even?, reached_part};
 ghost use Rattle.tables.specs.Judging.{table_refusal};
 ghost use Rattle.tables.specs.Lawful.{Lawful};
@@ -21,92 +22,125 @@ ghost use Rattle.listing.specs.Endings.{Endings};
 ghost use Rattle.aberulwy_c.specs.Answers.{Returned, returned, HandedOver, handed_over};
 ghost use Rattle.aberulwy_c.specs.Answers.{unfold_returned, check_returned, both_returned, station_returned, written_returned, text_returned};
 ghost use Rattle.aberulwy_c.specs.Answers.{fresh_returned, walk_returned, fixed_returned};
-ghost use Rattle.aberulwy_c.specs.Handing.{Answered, MaybeAnswered, WalkAnswered};
+ghost use Rattle.aberulwy_c.specs.Handing.{Answered, MaybeAnswered, WalkAnswered, size_report, came_report};
 ghost use Rattle.aberulwy_c.specs.Seen.{OrdersSeen, UnfoldSeen, CheckSeen, OwnSeen, TextSeen, FreshSeen, WalkSeen};
 ghost use Rattle.aberulwy_c.specs.Seen.{PrecedenceSeen, StationReadSeen, StationWrittenSeen, FormSeen};
 
-use aberulwy::{BasicAnswer, OrdersAnswer, OwnCheck};
 use checking::Checked;
-use fixing::FormFixed;
-use listing::Listed;
-use precedence::Precedence;
-use refusals::{Judgement, Refusal};
-use stations::StationRead;
-use texts::TextRead;
+use refusals::Refusal;
 use unfolding::Unfolded;
-use writing::StationWritten;
 
 // Answers a refusal's number and sets its place.
 fn refuse(refusal: Refusal, place: &mut usize) -> u8
     ensures { (result ≡ refusal.number) × (place.new ≡ printed refusal.place) }
 {
-    let number = refusal.number;
-    let at = refusal.place;
-    *place = refusals::print_place(at);
-    number
+    *place = refusals::print_place(refusal.place);
+    refusal.number
 }
 
-// Answers the number of an unfolding's answer and sets its values and its place.
-fn hand_unfolded(answer: Unfolded, steps: &mut usize, size: &mut usize, place: &mut usize) -> u8
-    ensures { Answered (unfold_report answer) result place.new steps.new size.new }
+// Answers 0 where a call that only judges accepts, or the refusal's number; and sets its place.
+fn hand_judged(answer: Result<(), Refusal>, place: &mut usize) -> u8
+    ensures { Answered (report answer) result place.new 0 0 }
 {
-    *steps = 0;
-    *size = 0;
     *place = 0;
     match answer {
-        Unfolded::Finished {
-            steps: made,
-            size: reached,
-        } => {
-            *steps = made;
-            *size = reached;
-            0
-        }
-        Unfolded::Stopped {
-            number: stop,
-            steps: before,
-            size: left,
-        } => {
-            *steps = before;
-            *size = left;
-            stop
-        }
-        Unfolded::Refused(refusal) => refuse(refusal, place),
+        Ok(()) => 0,
+        Err(refusal) => refuse(refusal, place),
     }
 }
 
-// Answers the number of a check's answer and sets its values and its place.
-fn hand_checked(answer: Checked, steps: &mut usize, size: &mut usize, place: &mut usize) -> u8
-    ensures { Answered (check_report answer) result place.new steps.new size.new }
+// Answers 0 and sets the size that a call answers, or answers the refusal's number and sets 0; and sets its place.
+fn hand_size(answer: Result<usize, Refusal>, size: &mut usize, place: &mut usize) -> u8
+    ensures { Answered (size_report answer) result place.new size.new 0 }
+{
+    *size = 0;
+    *place = 0;
+    match answer {
+        Ok(words) => {
+            *size = words;
+            0
+        }
+        Err(refusal) => refuse(refusal, place),
+    }
+}
+
+// How far an unfolding or a check came: the number of its ending, 0 where it finished or accepts, the steps made, and the size of the plan reached.
+#[derive(Clone, Copy)]
+struct Came {
+    number: u8,
+    steps: usize,
+    size: usize,
+}
+
+// How far an unfolding came.
+fn unfolded_so_far(answer: Result<Unfolded, Refusal>) -> Result<Came, Refusal>
+    ensures { came_report result ≡ unfold_report answer }
+{
+    match answer? {
+        Unfolded::Finished { steps, size } => Ok(Came {
+            number: 0,
+            steps,
+            size,
+        }),
+        Unfolded::Stopped {
+            number,
+            steps,
+            size,
+        } => Ok(Came {
+            number,
+            steps,
+            size,
+        }),
+    }
+}
+
+// How far a check came.
+fn checked_so_far(answer: Result<Checked, Refusal>) -> Result<Came, Refusal>
+    ensures { came_report result ≡ check_report answer }
+{
+    match answer? {
+        Checked::Accepted { steps, size } => Ok(Came {
+            number: 0,
+            steps,
+            size,
+        }),
+        Checked::TurnedBack {
+            number,
+            steps,
+            size,
+        } => Ok(Came {
+            number,
+            steps,
+            size,
+        }),
+    }
+}
+
+// Answers the number of an ending and sets its steps and size, or answers the refusal's number and sets zeros; and sets its place.
+fn hand_came(
+    answer: Result<Came, Refusal>,
+    steps: &mut usize,
+    size: &mut usize,
+    place: &mut usize,
+) -> u8
+    ensures { Answered (came_report answer) result place.new steps.new size.new }
 {
     *steps = 0;
     *size = 0;
     *place = 0;
     match answer {
-        Checked::Accepted {
-            steps: followed,
-            size: held,
-        } => {
-            *steps = followed;
-            *size = held;
-            0
+        Ok(came) => {
+            *steps = came.steps;
+            *size = came.size;
+            came.number
         }
-        Checked::TurnedBack {
-            number: fault,
-            steps: followed,
-            size: held,
-        } => {
-            *steps = followed;
-            *size = held;
-            fault
-        }
-        Checked::Refused(refusal) => refuse(refusal, place),
+        Err(refusal) => refuse(refusal, place),
     }
 }
 
 // Says whether an unfolding's own rewriting was checked, and sets the numbers of that check, zeros where it was not.
 fn hand_own(
-    own: OwnCheck,
+    own: Option<Result<Checked, Refusal>>,
     checked: &mut usize,
     number: &mut usize,
     steps: &mut usize,
@@ -115,36 +149,31 @@ fn hand_own(
 )
     ensures { MaybeAnswered (own_report own) checked.new number.new place.new steps.new size.new }
 {
-    match own {
-        OwnCheck::Checked(answer) => {
-            *checked = 1;
-            let said = hand_checked(answer, steps, size, place);
-            *number = said as usize;
-        }
-        OwnCheck::NotChecked => {
-            *checked = 0;
-            *number = 0;
-            *steps = 0;
-            *size = 0;
-            *place = 0;
-        }
+    *checked = 0;
+    *number = 0;
+    *steps = 0;
+    *size = 0;
+    *place = 0;
+    if let Some(answer) = own {
+        *checked = 1;
+        *number = usize::from(hand_came(checked_so_far(answer), steps, size, place));
     }
 }
 
 // Answers the number of a walk's answer and sets its place; the finish is set, 1 or 0, where nothing is refused.
-fn hand_walked(answer: Judgement, finish: bool, finished: &mut usize, place: &mut usize) -> u8
+fn hand_walked(
+    answer: Result<(), Refusal>,
+    finish: bool,
+    finished: &mut usize,
+    place: &mut usize,
+) -> u8
     ensures { WalkAnswered answer finish finished.old result place.new finished.new }
 {
-    *place = 0;
-    if let Judgement::Refused(refusal) = answer {
-        return refuse(refusal, place);
-    }
-    if finish {
-        *finished = 1;
-        return 0;
-    }
-    *finished = 0;
-    0
+    *finished = match answer {
+        Ok(()) => usize::from(finish),
+        Err(_) => *finished,
+    };
+    hand_judged(answer, place)
 }
 
 // Hands bytes over in an area, with zeros behind, and sets their length; or answers 1 where the area is too short, which then keeps its bytes.
@@ -156,9 +185,8 @@ fn hand_over(bytes: &[u8], out: &mut [u8], size: &mut usize) -> u8
     if out.len() < bytes.len() {
         return 1;
     }
-    let end = areas::copy_in(bytes, &mut *out, 0);
-    areas::clear_from(out, end);
-    *size = end;
+    areas::put_whole(bytes, out);
+    *size = bytes.len();
     0
 }
 
@@ -169,11 +197,7 @@ pub extern "C" fn aberulwy_judge_tables(tables: &[u8], place: &mut usize) -> u8
         (returned 0 (reported (table_refusal tables.now) []) []) }
     ensures accepts { (result ≡ 0) ↔ Lawful tables.now }
 {
-    *place = 0;
-    match aberulwy::judge_tables(tables) {
-        Judgement::Accepted => 0,
-        Judgement::Refused(refusal) => refuse(refusal, place),
-    }
+    hand_judged(aberulwy::judge_tables(tables), place)
 }
 
 // Judges tables and then a plan: 0 where both are accepted, or the number of the refusal and its place.
@@ -183,11 +207,7 @@ pub extern "C" fn aberulwy_judge_plan(tables: &[u8], plan: &[u8], place: &mut us
         (returned 0 (reported (plan_refusal tables.now plan.now) []) []) }
     ensures accepts { (result ≡ 0) ↔ AcceptedPlan tables.now plan.now }
 {
-    *place = 0;
-    match aberulwy::judge_plan(tables, plan) {
-        Judgement::Accepted => 0,
-        Judgement::Refused(refusal) => refuse(refusal, place),
-    }
+    hand_judged(aberulwy::judge_plan(tables, plan), place)
 }
 
 // Asks whether a plan is basic: 0, with `basic` 1 where it is and 0 where it is not; or the number of the refusal and its place.
@@ -205,12 +225,11 @@ pub extern "C" fn aberulwy_is_basic(
     *basic = 0;
     *place = 0;
     match aberulwy::is_basic(tables, plan) {
-        BasicAnswer::Yes => {
-            *basic = 1;
+        Ok(is) => {
+            *basic = usize::from(is);
             0
         }
-        BasicAnswer::No => 0,
-        BasicAnswer::Refused(refusal) => refuse(refusal, place),
+        Err(refusal) => refuse(refusal, place),
     }
 }
 
@@ -233,12 +252,12 @@ pub extern "C" fn aberulwy_count_orders(
     *stuck = 0;
     *place = 0;
     match aberulwy::count_orders(tables, plan) {
-        OrdersAnswer::Counted(counts) => {
+        Ok(counts) => {
             *orders = counts.orders;
             *stuck = counts.stuck;
             0
         }
-        OrdersAnswer::Refused(refusal) => refuse(refusal, place),
+        Err(refusal) => refuse(refusal, place),
     }
 }
 
@@ -268,7 +287,7 @@ pub extern "C" fn aberulwy_unfold(
         list.new a.new b.new result place.new steps.new size.new }
 {
     let answer = aberulwy::unfold(tables, plan, allowance, list, a, b);
-    hand_unfolded(answer, steps, size, place)
+    hand_came(unfolded_so_far(answer), steps, size, place)
 }
 
 // Unfolds a plan, then checks the unfolding's own rewriting in areas c and d. The number answered, `steps`, `size` and `place` are those of
@@ -320,10 +339,10 @@ pub extern "C" fn aberulwy_unfold_checked(
         }) }
 {
     let both = aberulwy::unfold_checked(tables, plan, allowance, list, a, b, c, d);
-    let unfolded = both.unfolded;
-    let own = both.own;
-    hand_own(own, checked, own_number, own_steps, own_size, own_place);
-    hand_unfolded(unfolded, steps, size, place)
+    hand_own(
+        both.own, checked, own_number, own_steps, own_size, own_place,
+    );
+    hand_came(unfolded_so_far(both.unfolded), steps, size, place)
 }
 
 // Copies the plan reached, after `steps` steps and of `size` words, out of area A or B, with zeros behind it: 0 and its length; or 1 and 0 where
@@ -373,7 +392,7 @@ pub extern "C" fn aberulwy_check_rewriting(
         a.new b.new result place.new steps.new size.new }
 {
     let answer = aberulwy::check_rewriting(tables, start, claimed, rewriting, a, b);
-    hand_checked(answer, steps, size, place)
+    hand_came(checked_so_far(answer), steps, size, place)
 }
 
 // Reads a station file into a tables area and a plan area: 0 with the plan's length; or the number of the refusal and its place.
@@ -396,15 +415,7 @@ pub extern "C" fn aberulwy_read_station(
     ensures claims { StationReadSeen file.now tables.old plan.old tables.new plan.new
         result place.new size.new }
 {
-    *size = 0;
-    *place = 0;
-    match aberulwy::read_station(file, tables, plan) {
-        StationRead::Read { size: read } => {
-            *size = read;
-            0
-        }
-        StationRead::Refused(refusal) => refuse(refusal, place),
-    }
+    hand_size(aberulwy::read_station(file, tables, plan), size, place)
 }
 
 // Writes the station file of tables and a plan into an area, zeros after: 0 with the file's length; or the number of the refusal and its place, and then
@@ -428,15 +439,7 @@ pub extern "C" fn aberulwy_write_station(
     ensures claims { StationWrittenSeen tables.now plan.now file.old file.new
         result place.new size.new }
 {
-    *size = 0;
-    *place = 0;
-    match aberulwy::write_station(tables, plan, file) {
-        StationWritten::Written { size: written } => {
-            *size = written;
-            0
-        }
-        StationWritten::Refused(refusal) => refuse(refusal, place),
-    }
+    hand_size(aberulwy::write_station(tables, plan, file), size, place)
 }
 
 // Reads a text, a plan typed in signs, into a plan area: 0 with the plan's length; or the number of the refusal and its place.
@@ -459,15 +462,7 @@ pub extern "C" fn aberulwy_read_text(
     ensures claims { TextSeen tables.now text.now plan.old plan.new
         result place.new size.new }
 {
-    *size = 0;
-    *place = 0;
-    match aberulwy::read_text(tables, text, plan) {
-        TextRead::Read { size: words } => {
-            *size = words;
-            0
-        }
-        TextRead::Refused(refusal) => refuse(refusal, place),
-    }
+    hand_size(aberulwy::read_text(tables, text, plan), size, place)
 }
 
 // Begins a walk through a basic plan: 0, with one mark, at the last word, and `finished` 0; or the number of the refusal and its place, and then the
@@ -545,15 +540,15 @@ pub extern "C" fn aberulwy_precedes(
     *at = 0;
     *place = 0;
     match aberulwy::precedes(tables, plan, first, second) {
-        Precedence::Yes => {
+        Ok(None) => {
             *yes = 1;
             0
         }
-        Precedence::No(found) => {
+        Ok(Some(found)) => {
             *at = found;
             0
         }
-        Precedence::Refused(refusal) => refuse(refusal, place),
+        Err(refusal) => refuse(refusal, place),
     }
 }
 
@@ -578,15 +573,7 @@ pub extern "C" fn aberulwy_fix_form(
     ensures claims { FormSeen tables.now plan.now area.old area.new
         result place.new size.new }
 {
-    *size = 0;
-    *place = 0;
-    match aberulwy::fix_form(tables, plan, area) {
-        FormFixed::Fixed { size: form } => {
-            *size = form;
-            0
-        }
-        FormFixed::Refused(refusal) => refuse(refusal, place),
-    }
+    hand_size(aberulwy::fix_form(tables, plan, area), size, place)
 }
 
 // Lists a station file, everything that the program prints for it, with zeros behind it: 0 and its length; or 1 and 0 where the area is too
@@ -600,10 +587,10 @@ pub extern "C" fn aberulwy_list_station(file: &[u8], out: &mut [u8], size: &mut 
 {
     *size = 0;
     match listing::list_station(file, out) {
-        Listed::Whole(length) => {
+        Some(length) => {
             *size = length;
             0
         }
-        Listed::Short => 1,
+        None => 1,
     }
 }

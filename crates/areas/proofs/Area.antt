@@ -5,9 +5,10 @@ use mathlib.Core.Bool.{Bool, true, false}
 use mathlib.Core.List.{List, [], ◌∷◌, ◌++◌, append_assoc, append-nil}
 use native.Mathlib.Omega.{arith}
 use native.Mathlib.Numerals.{add-one}
-use lib.ListN.{length, get_or, set, take, drop, replicate, length-append, length-drop, drop_of_length-le, replicate-append-replicate, take-append-drop, get_or-replicate, length-replicate, get_or-append, get_or-eq_default}
-use lib.Seq.{paste, paste-suc, set_split, take-length, take_all, take-suc-set, length-take-le, take_at, drop_at, drop-drop, drop-append_seam, get_or-append-add}
+use lib.ListN.{length, get_or, set, take, drop, replicate, length-append, length-drop, drop_of_length-le, take-append-drop, get_or-replicate, length-replicate, get_or-append, get_or-eq_default}
+use lib.Seq.{paste, paste-suc, set_split, take-length, length-take-le, take_at, drop_at, drop-drop, drop-append_seam, get_or-append-add}
 use lib.Dec.{ltb}
+use borrow.Rule.Slice.PartMut.{put_mid}
 use borrow.Author.Tests.{ltb-true, ltb-false}
 use Rattle.areas.specs.Area.{overwrite, padded}
 
@@ -21,6 +22,13 @@ paste_all d s k i h l =
 -- one more element copied
 pub paste_more : (d s : List ℕ) (k i : ℕ) → k + i < length d → i < length s → set (paste d k s i) (k + i) (get_or s i 0) ≡ paste d k s (i + 1)
 paste_more d s k i h l = rw (add-one i) (paste-suc d k s i 0 h l)
+
+-- a part that words were copied to is the area written over
+pub copied : (d v : List ℕ) (k : ℕ) → put_mid k (k + length v - k) d v ≡ overwrite d k v
+unfolding overwrite
+copied d v k =
+    let e : k + length v - k ≡ length v = omega arith in
+    rw (e, drop-drop (length v) k d)
 
 -- one word written
 pub overwrite-one : (d : List ℕ) (k v : ℕ) → k < length d → set d k v ≡ overwrite d k (v ∷ [])
@@ -37,8 +45,8 @@ overwrite_none d k =
 pub overwrite-length : (d : List ℕ) (k : ℕ) (v : List ℕ) → k + length v ≤ length d → length (overwrite d k v) ≡ length d
 unfolding overwrite
 overwrite-length d k v h =
-    rw (length-append (take k d) (v ++ drop (k + length v) d), length-append v (drop (k + length v) d), length-take-le k d (omega arith), length-drop (k + length v) d)
-    (omega arith)
+    let rest = drop (k + length v) d in
+    rw (length-append (take k d) (v ++ rest), length-append v rest, length-take-le k d (omega arith), length-drop (k + length v) d) (omega arith)
 
 -- what stands before the words written, the words, and what stands behind them
 pub take-overwrite : (d : List ℕ) (k : ℕ) (v : List ℕ) → k ≤ length d → take (k + length v) (overwrite d k v) ≡ take k d ++ v
@@ -75,27 +83,19 @@ overwrite-two d k v w h =
     ∙ ap (λ (z : ℕ). drop z d) e' in
     rw (a, b, c) (simp append_assoc)
 
--- zeros behind
-pub zero_none : (d : List ℕ) (k : ℕ) → take k d ≡ take k d ++ replicate (k - k) 0
-zero_none d k =
-    let e : k - k ≡ 0 = omega arith in
-    rw (e, append-nil (take k d))
-
-pub zero_more : (d₀ d : List ℕ) (k i : ℕ) → k ≤ i → i < length d → take i d ≡ take k d₀ ++ replicate (i - k) 0
-    → take (i + 1) (set d i 0) ≡ take k d₀ ++ replicate (i + 1 - k) 0
-zero_more d₀ d k i l h e =
-    let q : i + 1 - k ≡ i - k + 1 = omega arith in
-    rw (q, add-one i, take-suc-set d i 0 h, e, append_assoc (take k d₀) (replicate (i - k) 0) (0 ∷ [])) (ap (λ (z : List ℕ). take k d₀ ++ z) (replicate-append-replicate (i - k) 1 0))
-
-pub zero_all : (d₀ d : List ℕ) (k i : ℕ) → k ≤ length d₀ → length d ≡ length d₀ → i ≤ length d → length d ≤ i → take i d ≡ take k d₀ ++ replicate (i - k) 0
-    → d ≡ padded (take k d₀) (length d₀)
+-- a part that was filled with zeros to the end leaves zeros behind
+pub cleared : (d z : List ℕ) (k : ℕ) → k ≤ length d → z ≡ replicate (length (take (length d - k) (drop k d))) 0
+    → put_mid k (length d - k) d z ≡ padded (take k d) (length d)
 unfolding padded
-zero_all d₀ d k i h m a b e =
-    let q : i ≡ length d₀ = omega arith in
-    sym (take_all i d b) ∙ e ∙ rw (length-take-le k d₀ h, q)
+cleared d z k h e =
+    let m : length (take (length d - k) (drop k d)) ≡ length d - length (take k d) =
+    omega (arith, length-take-le (length d - k) (drop k d), length-drop k d, length-take-le k d h) in
+    let n : length d ≤ k + (length d - k) = omega arith in
+    rw (e, m, drop-drop (length d - k) k d, drop_of_length-le d {i = k + (length d - k)} n, append-nil)
 
 -- words copied to the front of an area, and the rest of it cleared
-pub padded-whole : (d d' w : List ℕ) → length w ≤ length d → length d' ≡ length d → d' ≡ overwrite d 0 w → padded (take (length w) d') (length d') ≡ padded w (length d)
+pub padded-whole : (d d' w : List ℕ) → length w ≤ length d → length d' ≡ length d → d' ≡ overwrite d 0 w
+    → padded (take (length w) d') (length d') ≡ padded w (length d)
 padded-whole d d' w h l e =
     let z : 0 + length w ≡ length w = omega arith in
     let t : take (length w) d' ≡ w = rw e (rw z at (take-overwrite d 0 w (omega arith))) in

@@ -4,14 +4,14 @@ use Prim.Native.Nat.{ℕ, ◌+◌, ◌-◌, ◌≤◌, min}
 use native.Mathlib.Nat.{min-le_left, min-le_right}
 use native.Mathlib.Omega.{arith}
 use native.Mathlib.Numerals.{add-one}
-use mathlib.Core.Path.{◌≡◌, refl, ap, sym, ◌∙◌}
+use mathlib.Core.Path.{◌≡◌, refl, ap, sym, ◌∙◌, subst}
 use mathlib.Core.Bool.{true, false, not}
 use mathlib.Core.List.{List, [], ◌++◌, append_assoc}
 use lib.ListN.{length, take, drop, replicate, length-append, length-take}
 use lib.Seq.{take-add, take_at, take-take, drop_at, length-take-le}
 use borrow.Author.Tests.{ne_eqb, eq-eqb}
 use Rattle.areas.specs.declared.StepState.{StepState}
-use Rattle.areas.specs.Area.{overwrite, padded, most_words}
+use Rattle.areas.specs.Area.{overwrite, Written, padded, most_words}
 use Rattle.areas.specs.Reached.{capacity, even?, area_a, area_b}
 use Rattle.areas.specs.Storing.{no_step, stepped, before, Undoable, Kept, Storable, Stored}
 use Rattle.areas.proofs.Area.{take-overwrite, overwrite-length, overwrite_none, overwrite-two}
@@ -61,22 +61,81 @@ module _ (d v d' : List ℕ) (i : ℕ) (f : Filled d v d' i) where
           place = omega (arith, length-append v w, f.place);
         }
 
+-- words copied in at the front, and words copied in behind those
+pub filled_first : (d v : List ℕ) → length v ≤ length d → (d' : List ℕ) (i : ℕ) → Written d d' 0 v i → Filled d v d' i
+filled_first d v h d' i p = filled_more d [] d 0 (filled_none d) v h d' i p.0 p.1
+
 -- the three parts of the plan before, where a step was made
 module _ (plan old : List ℕ) (size c : ℕ) (s : StepState) (long : size ≤ length plan) (u : Undoable s (take size plan) old c) where
   pub behind-within : s.at + s.new ≤ size
   behind-within = omega (arith, u.new_in, length-take-le size plan long)
 
-  pub before-parts : (s.steps ≡ 0 → ⊥)
-      → (take s.at plan ++ take s.old old) ++ take (size - (s.at + s.new)) (drop (s.at + s.new) plan) ≡ before s (take size plan) old
+  abbrev pub first_part : List ℕ
+  first_part = take s.at plan
+
+  abbrev pub second_part : List ℕ
+  second_part = take s.old old
+
+  abbrev pub third_part : List ℕ
+  third_part = take (size - (s.at + s.new)) (drop (s.at + s.new) plan)
+
+  before-parts : (s.steps ≡ 0 → ⊥) → (first_part ++ second_part) ++ third_part ≡ before s (take size plan) old
   unfolding before
   before-parts made =
       let i = s.at + s.new in
       rw (ne_eqb s.steps 0 made, take-take s.at size plan (omega (arith, behind-within)), drop-take i size plan behind-within long)
-      (append_assoc (take s.at plan) (take s.old old) (take (size - i) (drop i plan)))
+      (append_assoc first_part second_part (take (size - i) (drop i plan)))
 
   pub before_none : s.steps ≡ 0 → before s (take size plan) old ≡ []
   unfolding before
   before_none e = rw (eq-eqb s.steps 0 e) refl
+
+-- the parts fit an area, and fill it one after another
+module _ (plan old d : List ℕ) (size : ℕ) (s : StepState) (long : size ≤ length plan)
+    (u : Undoable s (take size plan) old (length d)) (made : s.steps ≡ 0 → ⊥) where
+  abbrev one : List ℕ
+  one = first_part plan old size (length d) s long u
+
+  abbrev two : List ℕ
+  two = second_part plan old size (length d) s long u
+
+  abbrev three : List ℕ
+  three = third_part plan old size (length d) s long u
+
+  all_fit : length ((one ++ two) ++ three) ≤ length d
+  all_fit = rw (before-parts plan old size (length d) s long u made) u.before_fits
+
+  two-fit : length (one ++ two) ≤ length d
+  two-fit = first_fits (one ++ two) three (length d) all_fit
+
+  pub one-fits : length one ≤ length d
+  one-fits = first_fits one two (length d) two-fit
+
+  module _ (d₁ : List ℕ) (i : ℕ) (p : Written d d₁ 0 one i) where
+    first : Filled d one d₁ i
+    first = filled_first d one one-fits d₁ i p
+
+    pub second-room : i + length two ≤ length d₁
+    second-room = filled_room d one d₁ i first two two-fit
+
+    module _ (d₂ : List ℕ) (j : ℕ) (q : Written d₁ d₂ i two j) where
+      second : Filled d (one ++ two) d₂ j
+      second = filled_more d one d₁ i first two two-fit d₂ j q.0 q.1
+
+      pub third-room : j + length three ≤ length d₂
+      third-room = filled_room d (one ++ two) d₂ j second three all_fit
+
+      module _ (d₃ : List ℕ) (k : ℕ) (r : Written d₂ d₃ j three k) where
+        third : Filled d (before s (take size plan) old) d₃ k
+        third =
+            subst (λ w. Filled d w d₃ k) (before-parts plan old size (length d) s long u made)
+            (filled_more d (one ++ two) d₂ j second three all_fit d₃ k r.0 r.1)
+
+        pub third-within : k ≤ length d₃
+        third-within = filled_within d (before s (take size plan) old) d₃ k third u.before_fits
+
+        pub third-padded : padded (take k d₃) (length d₃) ≡ padded (before s (take size plan) old) (length d)
+        third-padded = filled_padded d (before s (take size plan) old) d₃ k third u.before_fits
 
 -- the plan stands at the front of its area, and so the one before it can be made from there
 module _ (plan a : List ℕ) (size m : ℕ) (put : (a ≡ padded plan m) × (size ≡ length plan)) (fits : length plan ≤ m) where
@@ -92,19 +151,23 @@ module _ (plan a : List ℕ) (size m : ℕ) (put : (a ≡ padded plan m) × (siz
   put-undoable s old b c u h =
       rw take_put (record { old_in = u.old_in; new_in = u.new_in; before_fits = h })
 
--- both areas, where the plan was put into one and the one before it, made from there, into the other
-module _ (a b a' b' plan old : List ℕ) (s : StepState) (size : ℕ) where
-  pub stored_even : s.even ≡ true → (a' ≡ padded plan (length a)) × (size ≡ length plan) → length plan ≤ length a
-      → b' ≡ padded (before s (take size a') old) (length b) → Stored a b a' b' s plan old size
+-- both areas, where the plan was put into one and the one before it into the other
+module _ (a b a' b' plan old : List ℕ) (s : StepState) (size : ℕ) (is_size : size ≡ length plan) where
+  pub stored_even : s.even ≡ true → a' ≡ padded plan (length a) → b' ≡ padded (before s plan old) (length b) → Stored a b a' b' s plan old size
   unfolding area_a area_b
-  stored_even q put fits e =
-      record { in_a = put.0 ∙ sym (ap (λ p. area_a p plan (before s plan old) (length a)) q); in_b = e ∙ rw (take_put plan a' size (length a) put fits) (sym (ap (λ p. area_b p plan (before s plan old) (length b)) q)); plan_size = put.1 }
+  stored_even q e f = record {
+    in_a = e ∙ sym (ap (λ p. area_a p plan (before s plan old) (length a)) q);
+    in_b = f ∙ sym (ap (λ p. area_b p plan (before s plan old) (length b)) q);
+    plan_size = is_size;
+  }
 
-  pub stored_odd : s.even ≡ false → (b' ≡ padded plan (length b)) × (size ≡ length plan) → length plan ≤ length b
-      → a' ≡ padded (before s (take size b') old) (length a) → Stored a b a' b' s plan old size
+  pub stored_odd : s.even ≡ false → b' ≡ padded plan (length b) → a' ≡ padded (before s plan old) (length a) → Stored a b a' b' s plan old size
   unfolding area_a area_b
-  stored_odd q put fits e =
-      record { in_a = e ∙ rw (take_put plan b' size (length b) put fits) (sym (ap (λ p. area_a p plan (before s plan old) (length a)) q)); in_b = put.0 ∙ sym (ap (λ p. area_b p plan (before s plan old) (length b)) q); plan_size = put.1 }
+  stored_odd q e f = record {
+    in_a = f ∙ sym (ap (λ p. area_a p plan (before s plan old) (length a)) q);
+    in_b = e ∙ sym (ap (λ p. area_b p plan (before s plan old) (length b)) q);
+    plan_size = is_size;
+  }
 
 -- no step made of a plan of at most c words
 pub kept_none : (c : ℕ) (plan old : List ℕ) → length plan ≤ c → Kept c plan old no_step
@@ -113,7 +176,8 @@ kept_none c plan old short =
     record { undoable = record { old_in = omega arith; new_in = omega arith; before_fits = omega arith }; short = short; parity = refl }
 
 -- a step: the words `gone` behind v gave way to the words `side`, and `old` begins with the words gone
-module _ (v gone side w old : List ℕ) (s : StepState) (at m n : ℕ) (is_at : length v ≡ at) (is_old : length gone ≡ m) (is_new : length side ≡ n) (kept : take m old ≡ gone) where
+module _ (v gone side w old : List ℕ) (s : StepState) (at m n : ℕ)
+    (is_at : length v ≡ at) (is_old : length gone ≡ m) (is_new : length side ≡ n) (kept : take m old ≡ gone) where
   pub before-step : before (stepped s at m n) (v ++ (side ++ w)) old ≡ v ++ (gone ++ w)
   unfolding before
   before-step =

@@ -23,12 +23,9 @@ pub fn copy_in(src: &[u8], dst: &mut [u8], at: usize) -> usize
     requires { at + length src.now ≤ length dst.old }
     ensures { Written dst.old dst.new at src.now result }
 {
-    let mut i: usize = 0;
-    while i < src.len() {
-        dst[at + i] = src[i];
-        i += 1;
-    }
-    at + i
+    let end = at + src.len();
+    dst[at..end].copy_from_slice(src);
+    end
 }
 
 // Zeros from a place to the end.
@@ -36,11 +33,7 @@ pub fn clear_from(dst: &mut [u8], at: usize)
     requires { at ≤ length dst.old }
     ensures { dst.new ≡ padded (take at dst.old) (length dst.old) }
 {
-    let mut i: usize = at;
-    while i < dst.len() {
-        dst[i] = 0;
-        i += 1;
-    }
+    dst[at..].fill(0);
 }
 
 // Puts words into an area, zeros behind.
@@ -53,21 +46,15 @@ pub fn put_whole(words: &[u8], area: &mut [u8])
     clear_from(area, end);
 }
 
-// The smaller of two numbers.
-pub fn smaller(a: usize, b: usize) -> usize
-    ensures { result ≡ min a b }
-{
-    if a < b { a } else { b }
-}
-
 // C: the least of both areas' lengths and 16,384.
 pub fn least(a: usize, b: usize) -> usize
     ensures { result ≡ min (min a b) most_words }
 {
-    smaller(smaller(a, b), MOST_WORDS)
+    a.min(b).min(MOST_WORDS)
 }
 
 // The steps made and whether they are even, and the last step: where its subplan started, how many words it had before and how many after.
+// The parity stands beside the number, and the last step in no `Option`: definitions of the crates above speak of each of these fields.
 #[derive(Clone, Copy)]
 pub struct StepState {
     pub steps: usize,
@@ -93,7 +80,7 @@ impl StepState {
     }
 }
 
-// The state before the first step.
+// The state before the first step. It has a name of its own and is no `Default`: calls say by it which state they begin with.
 pub fn no_step() -> StepState
     ensures { result ≡ no_step }
 {
@@ -124,17 +111,36 @@ fn put_before(plan: &[u8], size: usize, old: &[u8], state: StepState, dst: &mut 
     requires { (size ≤ length plan.now) × Undoable state (take size plan.now) old.now (length dst.old) }
     ensures { dst.new ≡ padded (before state (take size plan.now) old.now) (length dst.old) }
 {
-    let at = state.at;
-    let gone = state.old;
     let behind = state.at + state.new;
     if state.steps == 0 {
         clear_from(dst, 0);
     } else {
-        let first = copy_in(&plan[..at], dst, 0);
-        let second = copy_in(&old[..gone], dst, first);
+        let first = copy_in(&plan[..state.at], dst, 0);
+        let second = copy_in(&old[..state.old], dst, first);
         let third = copy_in(&plan[behind..size], dst, second);
         clear_from(dst, third);
     }
+}
+
+// Puts the plan into one area and the plan one step before into the other; how many words the plan has. The plan is left followed by right,
+// and old begins with the words that the last step took away.
+fn put_both(
+    left: &[u8],
+    right: &[u8],
+    old: &[u8],
+    state: StepState,
+    now: &mut [u8],
+    past: &mut [u8],
+) -> usize
+    requires room { length (left.now ++ right.now) ≤ length now.old }
+    requires undoable { Undoable state (left.now ++ right.now) old.now (length past.old) }
+    ensures plan { now.new ≡ padded (left.now ++ right.now) (length now.old) }
+    ensures plan_before { past.new ≡ padded (before state (left.now ++ right.now) old.now) (length past.old) }
+    ensures size { result ≡ length (left.now ++ right.now) }
+{
+    let size = put_plan(left, right, now);
+    put_before(&now[..], size, old, state, past);
+    size
 }
 
 // Puts the plan and the one before it into the two areas: after an even number of steps the plan stands in a, after an odd one in b. How
@@ -151,14 +157,9 @@ pub fn store(
     ensures { Stored a.old b.old a.new b.new state
         (left.now ++ right.now) old.now result }
 {
-    let even = state.even;
-    if even {
-        let size = put_plan(left, right, a);
-        put_before(&a[..], size, old, state, b);
-        size
+    if state.even {
+        put_both(left, right, old, state, a, b)
     } else {
-        let size = put_plan(left, right, b);
-        put_before(&b[..], size, old, state, a);
-        size
+        put_both(left, right, old, state, b, a)
     }
 }

@@ -1,10 +1,10 @@
 -- A block that is made: its parts, that it is not refused, and that a block which is not refused is made so.
+use Rattle.std.specs.Prelude.{Result, Ok, ⊤}
+use Rattle.refusals.specs.declared.Refusal.{Refusal}
 use Rattle.std.proofs.Common.{◌≡◌, ℕ, zero, suc, ◌+◌, ◌-◌, ◌*◌, ◌/◌, ◌%◌, ◌<◌, ◌≤◌, Bool, true, false, ◌&&◌, eqb, ◌↔◌, List, [], ◌∷◌, ◌++◌, length, get_or, take, drop, replicate, sym, refl, ap, ◌∙◌, arith, length-append, length-drop, take-append-drop, drop_of_length-le, drop-cons, drop-drop, take_at, get_or-append-add, eq-eqb, eqb-true}
 use mathlib.Core.Option.{none}
 use lib.ListN.{length-replicate, get_or-append}
 use lib.Seq.{take-append_seam, drop-append_seam}
-use Rattle.refusals.specs.declared.Judgement.{Judgement}
-use Rattle.refusals.specs.declared.Judgement.TheVariants.{Accepted}
 use Rattle.refusals.specs.Refusal.{judged}
 use Rattle.refusals.proofs.Judging.{accepts_iff}
 use Rattle.areas.specs.Area.{padded}
@@ -152,7 +152,8 @@ module _ (b : List ℕ) (long : length b ≡ 512) (bytes : Bytes b) where
   last-two =
       drop-drop 504 6 b
       ∙ drop-cons b 510 0 (omega arith)
-      ∙ ap (λ (r : List ℕ). get_or b 510 0 ∷ r) (drop-cons b 511 0 (omega arith) ∙ ap (λ (r : List ℕ). get_or b 511 0 ∷ r) (drop_of_length-le b {i = 512} (omega arith)))
+      ∙ ap (λ (r : List ℕ). get_or b 510 0 ∷ r)
+      (drop-cons b 511 0 (omega arith) ∙ ap (λ (r : List ℕ). get_or b 511 0 ∷ r) (drop_of_length-le b {i = 512} (omega arith)))
       ∙ two_back (get_or b 510 0) (get_or b 511 0) (word b 255) (bytes 510) refl
 
   rest_back : drop 6 b ≡ content b ++ two_bytes (word b 255)
@@ -170,9 +171,12 @@ module _ (b : List ℕ) (long : length b ≡ 512) (bytes : Bytes b) where
   unfolding number_of kind_of count_of word
   parts-back =
       sixth
-      ∙ ap (λ (r : List ℕ). r ++ (get_or b 2 0 ∷ get_or b 3 0 ∷ get_or b 4 0 ∷ get_or b 5 0 ∷ drop 6 b)) (two_back (get_or b 0 0) (get_or b 1 0) (word b 0) (bytes 0) refl)
-      ∙ ap (λ (r : List ℕ). two_bytes (word b 0) ++ (r ++ (get_or b 4 0 ∷ get_or b 5 0 ∷ drop 6 b))) (two_back (get_or b 2 0) (get_or b 3 0) (word b 1) (bytes 2) refl)
-      ∙ ap (λ (r : List ℕ). two_bytes (word b 0) ++ (two_bytes (word b 1) ++ (r ++ drop 6 b))) (two_back (get_or b 4 0) (get_or b 5 0) (word b 2) (bytes 4) refl)
+      ∙ ap (λ (r : List ℕ). r ++ (get_or b 2 0 ∷ get_or b 3 0 ∷ get_or b 4 0 ∷ get_or b 5 0 ∷ drop 6 b))
+      (two_back (get_or b 0 0) (get_or b 1 0) (word b 0) (bytes 0) refl)
+      ∙ ap (λ (r : List ℕ). two_bytes (word b 0) ++ (r ++ (get_or b 4 0 ∷ get_or b 5 0 ∷ drop 6 b)))
+      (two_back (get_or b 2 0) (get_or b 3 0) (word b 1) (bytes 2) refl)
+      ∙ ap (λ (r : List ℕ). two_bytes (word b 0) ++ (two_bytes (word b 1) ++ (r ++ drop 6 b)))
+      (two_back (get_or b 4 0) (get_or b 5 0) (word b 2) (bytes 4) refl)
       ∙ ap (λ (r : List ℕ). two_bytes (word b 0) ++ (two_bytes (word b 1) ++ (two_bytes (word b 2) ++ r))) rest_back
 
   module _ (n i : ℕ) (r : Right n i b) where
@@ -211,8 +215,6 @@ right-block_iff n i b long bytes = (
 )
 
 -- so a judge that answers by the tests answers by the plain statement
-abbrev pub Answered : ℕ → ℕ → List ℕ → Judgement → Type 0
-Answered n i b r = r ≡ judged (block_refusal n i b) → (r ≡ judged (block_refusal n i b)) × ((r ≡ Accepted) ↔ RightBlock n i b)
-
-pub answered_iff : (n i : ℕ) (b : List ℕ) → length b ≡ 512 → Bytes b → {r : Judgement} → Answered n i b r
-answered_iff n i b long bytes e = (e, accepts_iff (block_refusal n i b) _ _ e (right-block_iff n i b long bytes))
+pub answered_right : (n i : ℕ) (b : List ℕ) (r : Result ⊤ Refusal) → length b ≡ 512 → Bytes b → r ≡ judged (block_refusal n i b)
+    → (r ≡ Ok tt) ↔ RightBlock n i b
+answered_right n i b r long bytes e = accepts_iff (block_refusal n i b) r (RightBlock n i b) e (right-block_iff n i b long bytes)

@@ -1,15 +1,10 @@
 -- A block made in 512 bytes step by step.
-use Rattle.std.proofs.Common.{◌≡◌, ℕ, ◌+◌, ◌-◌, ◌/◌, ◌%◌, ◌≤◌, List, [], ◌∷◌, ◌++◌, length, take, replicate, refl, ◌∙◌, append_assoc, append-nil, arith, length-append, drop_of_length-le, take_at}
+use Rattle.std.proofs.Common.{◌≡◌, ℕ, ◌+◌, ◌-◌, ◌%◌, ◌≤◌, List, [], ◌∷◌, ◌++◌, length, take, replicate, refl, ◌∙◌, append_assoc, append-nil, arith, length-append, drop_of_length-le, take_at}
 use lib.ListN.{replicate-append-replicate}
 use Rattle.areas.specs.Area.{overwrite, padded}
 use Rattle.areas.proofs.Area.{overwrite-two, take-overwrite}
 use Rattle.blocks.specs.Block.{sum_due, words_sum, two_bytes, unsummed, with_sum, block_of}
 use Rattle.blocks.proofs.Made.{sum_front, unsummed-long}
-
--- a word written as two bytes, low first
-pub two-put : (d : List ℕ) (k v : ℕ) → k + 2 ≤ length d → overwrite (overwrite d k (v % 256 ∷ [])) (k + 1) (v / 256 ∷ []) ≡ overwrite d k (two_bytes v)
-unfolding two_bytes
-two-put d k v h = overwrite-two d k (v % 256 ∷ []) (v / 256 ∷ []) (omega arith)
 
 -- two bytes written over the last two
 last-over : (u v : List ℕ) → length u ≡ 510 → length v ≡ 2 → overwrite (u ++ (0 ∷ 0 ∷ [])) 510 v ≡ u ++ v
@@ -47,7 +42,15 @@ module _ (i k : ℕ) (c b : List ℕ) (long : length b ≡ 512) (h : length c �
   zeros-made p q =
       let l : 6 + length c ≡ 0 + length (headed i k c) = omega arith in
       let m : 512 - length (headed i k c) ≡ 504 - length c + 2 = omega arith in
-      rw (q, p, l, take-overwrite b 0 (headed i k c) (omega arith), m, ← replicate-append-replicate {A = ℕ} (504 - length c) 2 0, append_assoc c (replicate (504 - length c) 0) (0 ∷ 0 ∷ []))
+      rw (
+        q,
+        p,
+        l,
+        take-overwrite b 0 (headed i k c) (omega arith),
+        m,
+        ← replicate-append-replicate {A = ℕ} (504 - length c) 2 0,
+        append_assoc c (replicate (504 - length c) 0) (0 ∷ 0 ∷ []),
+      )
 
   -- the sum over the two zeros
   sum-made : {b₅ b₆ : List ℕ} → b₅ ≡ unsummed i k c ++ (0 ∷ 0 ∷ []) → b₆ ≡ overwrite b₅ 510 (two_bytes (words_sum b₅ 0 255 % 65536)) → b₆ ≡ block_of i k c

@@ -1,5 +1,6 @@
--- One more word of a block's sum, and one more byte of its filling.
-use Rattle.std.proofs.Common.{◌≡◌, ℕ, suc, ◌+◌, ◌-◌, ◌%◌, ◌<◌, ◌≤◌, true, false, ◌&&◌, eqb, List, length, get_or, take, drop, sym, ◌∙◌, add-one, arith, length-drop, drop_of_length-le, length-take-le, get_or-drop, drop-cons, get_or-take, take-take, eq-eqb, ne_eqb}
+-- One more word of a block's sum; its content, what is used of it, and its filling.
+use Rattle.std.proofs.Common.{◌≡◌, ℕ, suc, ◌+◌, ◌-◌, ◌%◌, ◌<◌, ◌≤◌, ◌&&◌, ◌==◌, List, [], ◌∷◌, length, take, drop, refl, ap, add-one, arith, length-drop, length-take-le, take-take}
+use Rattle.std.specs.List.{list_all}
 use Rattle.blocks.specs.Block.{word, count_of, content, used, words_sum, all_zero}
 
 sum-next : (b : List ℕ) (k : ℕ) → k < 255 → words_sum b k (255 - k) ≡ word b k + words_sum b (k + 1) (255 - (k + 1))
@@ -25,10 +26,6 @@ pub length-content : (b : List ℕ) → length b ≡ 512 → length (content b) 
 unfolding content
 length-content b h = length-take-le 504 (drop 6 b) (omega (arith, length-drop 6 b))
 
-content_at : (b : List ℕ) (k : ℕ) → k < 504 → get_or (content b) k 0 ≡ get_or b (6 + k) 0
-unfolding content
-content_at b k h = rw (get_or-take 504 (drop 6 b) k 0 h, get_or-drop 6 b k 0)
-
 -- the part of a block that is used, and its length
 module _ (b : List ℕ) (h : count_of b ≤ 504) where
   pub used-part : (w : ℕ) → w ≡ word b 2 → take (6 + w - 6) (drop 6 b) ≡ used b
@@ -41,22 +38,8 @@ module _ (b : List ℕ) (h : count_of b ≤ 504) where
   unfolding used
   length-used long = length-take-le (count_of b) (content b) (omega (arith, length-content b long))
 
--- the content from byte k on: its first byte, and the rest
-module _ (b : List ℕ) (long : length b ≡ 512) (k : ℕ) (h : k < 504) where
-  zero_next : all_zero (drop k (content b)) ≡ (eqb (get_or b (6 + k) 0) 0 && all_zero (drop (k + 1) (content b)))
-  unfolding all_zero
-  zero_next =
-      let l : k < length (content b) = omega (arith, length-content b long) in
-      rw (drop-cons (content b) k 0 l, content_at b k h, add-one k)
-
-  pub zero_turn : get_or b (6 + k) 0 ≡ 0 → all_zero (drop (k + 1) (content b)) ≡ all_zero (drop k (content b))
-  zero_turn z = sym (zero_next ∙ rw (eq-eqb _ _ z))
-
-  pub zero_stop : (get_or b (6 + k) 0 ≡ 0 → ⊥) → false ≡ all_zero (drop k (content b))
-  zero_stop n = sym (zero_next ∙ rw (ne_eqb _ _ n))
-
-pub zero_end : (b : List ℕ) → length b ≡ 512 → (k : ℕ) → 504 ≤ k → true ≡ all_zero (drop k (content b))
+-- the library's test of each byte is that of the definition
+pub all_zeros : (l : List ℕ) → list_all (λ v. v == 0) l ≡ all_zero l
 unfolding all_zero
-zero_end b long k h =
-    let l : length (content b) ≤ k = omega (arith, length-content b long) in
-    rw (drop_of_length-le (content b) l)
+all_zeros [] = refl
+all_zeros (v ∷ vs) = ap (λ b. v == 0 && b) (all_zeros vs)

@@ -5,7 +5,7 @@ use native.Mathlib.Numerals.{add-one}
 use mathlib.Core.Path.{◌≡◌, refl, sym, ◌∙◌}
 use mathlib.Core.List.{List, [], ◌∷◌, ◌++◌, append_assoc}
 use lib.ListN.{length, get_or, set, take, drop, length-append, length-drop, length-set}
-use lib.Seq.{length-take-le, take_at, drop_at, take-suc, drop-cons, take-add, take_all, take-suc-set, set_split, get_or-set_same, get_or-set_other}
+use lib.Seq.{length-take-le, take_at, drop-cons, take-add, take_all, take-suc-set, get_or-set_same, get_or-set_other}
 use borrow.Author.Count.{below_more}
 use Rattle.areas.specs.Area.{overwrite, most_words}
 use Rattle.areas.proofs.Area.{drop-overwrite, overwrite-length}
@@ -51,11 +51,11 @@ held-fewer n left starts right right' read rest read' rest' h long fewer apart w
     same k l =
         start-take n left read' k (omega arith) l ∙ sym (start-take n left read k (omega arith) (omega arith))
 
--- one word fewer read, and one more in the rest
-pub held_back : (n : ℕ) (left starts right right' : List ℕ) (read rest : ℕ) → Held n left starts right read rest → length right' ≡ length right → 1 ≤ read
-    → Held n left starts right' (read - 1) (rest - 1)
-held_back n left starts right right' read rest h long some_read =
-    held-fewer n left starts right right' read rest (read - 1) (rest - 1) h (long ∙ h.right_long) (omega arith) (omega arith) (omega arith)
+-- the words read from a place on are back in the rest
+pub held_back : (n : ℕ) (left starts right right' : List ℕ) (read rest to : ℕ) → Held n left starts right read rest → length right' ≡ length right → to ≤ read
+    → Held n left starts right' to (rest - (read - to))
+held_back n left starts right right' read rest to h long fewer =
+    held-fewer n left starts right right' read rest to (rest - (read - to)) h (long ∙ h.right_long) fewer (omega (arith, h.apart, fewer)) (omega (arith, h.rest_in))
 
 -- the parts of the plan
 module _ (left right : List ℕ) (read rest : ℕ) (g : Gap left right read rest) where
@@ -83,21 +83,6 @@ forward-whole left right read rest g more =
     let w = get_or right rest 0 in
     rw (add-one read, add-one rest, take-suc-set left read w (omega arith), drop-cons right rest 0 (omega arith))
     (append_assoc (take read left) (w ∷ []) (drop (suc rest) right))
-
-back_suc : (left right : List ℕ) (i j : ℕ) → i < length left → j < length right
-    → take i left ++ drop j (set right j (get_or left i 0)) ≡ take (suc i) left ++ drop (suc j) right
-back_suc left right i j h l =
-    let w = get_or left i 0 in
-    rw (set_split right j w l, drop_at (take j right) (w ∷ drop (suc j) right) j (length-take-le j right (omega arith)), take-suc left i 0 h)
-    (sym (append_assoc (take i left) (w ∷ []) (drop (suc j) right)))
-
-pub back_whole : (left right : List ℕ) (read rest : ℕ) → Gap left right read rest → 1 ≤ read
-    → whole left (set right (rest - 1) (get_or left (read - 1) 0)) (read - 1) (rest - 1) ≡ whole left right read rest
-unfolding whole
-back_whole left right read rest g some_read =
-    let a : suc (read - 1) ≡ read = omega arith in
-    let b : suc (rest - 1) ≡ rest = omega arith in
-    rw (a, b) at (back_suc left right (read - 1) (rest - 1) (omega arith) (omega arith))
 
 pub held_forward : (n : ℕ) (left starts right : List ℕ) (read rest w at : ℕ) → Held n left starts right read rest → rest < most_words
     → at ≡ start_of n (take read left ++ (w ∷ [])) read → Held n (set left read w) (set starts read at) right (read + 1) (rest + 1)
@@ -159,3 +144,12 @@ module _ (left right side : List ℕ) (read rest start : ℕ) (g : Gap left righ
     kept_step c fits =
         storing.kept_step (take start left) gone side (drop rest right) old s start (read - start) (length side) (length-take-le start left (omega arith)) gone_long refl kept c
         (rw gone_back fits)
+
+-- words read that are moved back: written in front of the rest, they are the first of it again
+pub back_whole : (left right right' : List ℕ) (read rest to : ℕ) → Gap left right read rest → to ≤ read
+    → right' ≡ overwrite right (rest - (read - to)) (take (read - to) (drop to left)) → whole left right' to (rest - (read - to)) ≡ whole left right read rest
+back_whole left right right' read rest to g within e =
+    let v = take (read - to) (drop to left) in
+    let long : length v ≡ read - to = gone_long left right [] read rest to g within (omega (arith, g.apart, within)) in
+    let z = step-whole left right v read rest to g within (omega (arith, long, g.apart, within)) ∙ gone_back left right v read rest to g within (omega (arith, long, g.apart, within)) in
+    rw e (rw long at z)

@@ -23,8 +23,7 @@ impl State {
     pub fn moved_to(self, read: usize, rest: usize) -> State
         ensures { result ≡ moved self read rest }
     {
-        let made = self.made;
-        State { read, rest, made }
+        State { read, rest, ..self }
     }
 
     // The state after one step more.
@@ -32,11 +31,10 @@ impl State {
         requires { self.made.steps < 18446744073709551615 }
         ensures { result ≡ stepped self at old new rest }
     {
-        let made = self.made.after_step(at, old, new);
         State {
             read: at,
             rest,
-            made,
+            made: self.made.after_step(at, old, new),
         }
     }
 }
@@ -50,15 +48,14 @@ pub fn load(plan: &[u8], right: &mut [u8]) -> State
 {
     let rest = MOST_WORDS - plan.len();
     areas::copy_in(plan, right, rest);
-    let made = areas::no_step();
     State {
         read: 0,
         rest,
-        made,
+        made: areas::no_step(),
     }
 }
 
-// Moves the first word of the rest over to the words read.
+// Moves the first word of the rest over to the words read: one word at a time, since its start is found by the starts before it.
 pub fn forward(n: u8, left: &mut [u8], starts: &mut [u16], right: &[u8], read: usize, rest: usize)
     requires n_bound { (n ≤ 31) × (rest < most_words) × Held n left.old starts.old right.now read rest }
     requires rest_value { words_refusal n (whole left.old right.now read rest) ≡ none }
@@ -66,15 +63,17 @@ pub fn forward(n: u8, left: &mut [u8], starts: &mut [u16], right: &[u8], read: u
     ensures held { Held n left.new starts.new right.now (read + 1) (rest + 1) }
 {
     let word = right[rest];
-    let start = plans::start_of_next(n, word, starts, read);
-    starts[read] = start;
+    starts[read] = plans::start_of_next(n, word, starts, read);
     left[read] = word;
 }
 
-// Moves the last word read back to the rest.
-pub fn back(left: &[u8], right: &mut [u8], read: usize, rest: usize)
-    requires { Gap left.now right.old read rest × (1 ≤ read) }
-    ensures { whole left.now right.new (read - 1) (rest - 1) ≡ whole left.now right.old read rest }
+// Moves the words read, from a place on, back to the rest.
+pub fn back(left: &[u8], right: &mut [u8], state: State, to: usize) -> State
+    requires { Gap left.now right.old state.read state.rest × (to ≤ state.read) }
+    ensures { (result ≡ moved state to (state.rest - (state.read - to)))
+        × (whole left.now right.new result.read result.rest ≡ whole left.now right.old state.read state.rest) }
 {
-    right[rest - 1] = left[read - 1];
+    let rest = state.rest - (state.read - to);
+    areas::copy_in(&left[to..state.read], right, rest);
+    state.moved_to(to, rest)
 }

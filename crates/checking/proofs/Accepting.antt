@@ -1,4 +1,5 @@
 -- What a check that accepts says: nothing is refused, and the records lead from the start plan to the claimed one; so the trees are alike.
+use Rattle.std.specs.Prelude.{Result, Ok}
 use Prim.Native.Nat.{ℕ, suc, ◌+◌, ◌≤◌}
 use native.Mathlib.Omega.{arith}
 use mathlib.Core.Path.{◌≡◌, refl, ap, sym, ◌∙◌, subst}
@@ -26,6 +27,7 @@ use Rattle.laws.proofs.Tables.{Proper, lawful_proper}
 use Rattle.laws.proofs.Sound.{same_list, same_itself}
 use Rattle.laws.proofs.Stepping.{Reads}
 use Rattle.areas.specs.Reached.{capacity}
+use Rattle.checking.specs.declared.Checked.{Checked}
 use Rattle.checking.specs.declared.Checked.TheVariants.{Accepted, TurnedBack}
 use Rattle.checking.specs.Checking.{Replay, on_step, stop_if, if_refused, checked, unless_refused, step_of, unknown_law, left_refusal, records_refusal, rewriting_refusal, check_refusal, replay, replay_of, check_outcome}
 use Rattle.rewritings.specs.Records.{Recorded, forward, backward, records_of, whole?}
@@ -104,14 +106,14 @@ module _ (t : Tables) (ok : Proper t) where
 abbrev pub Told : Replay → ℕ → ℕ → Type 0
 Told r k z = (r.number ≡ 0) × (r.steps ≡ k) × (length r.plan ≡ z)
 
-pub accepted_told : (r : Replay) (k z : ℕ) → checked r ≡ Accepted k z → Told r k z
+pub accepted_told : (r : Replay) (k z : ℕ) → checked r ≡ Ok (Accepted k z) → Told r k z
 accepted_told r k z e = go (eqb r.number 0) refl e
   where
-    go : (b : Bool) → eqb r.number 0 ≡ b → cond b (Accepted r.steps (length r.plan)) (TurnedBack r.number r.steps (length r.plan)) ≡ Accepted k z → Told r k z
+    go : (b : Bool) → eqb r.number 0 ≡ b → cond {A = Result Checked Refusal} b (Ok (Accepted r.steps (length r.plan))) (Ok (TurnedBack r.number r.steps (length r.plan))) ≡ Ok (Accepted k z) → Told r k z
     go true q e = (eqb-true r.number 0 q, cc, cc)
     go false q e = let x : ◌≡◌ {A = ℕ} 0 1 = cc in absurd (omega arith)
 
-pub accepted_case : (o : Option Refusal) (r : Replay) (a b : List ℕ) (k z : ℕ) → (unless_refused o r a b).answer ≡ Accepted k z → (o ≡ none) × Told r k z
+pub accepted_case : (o : Option Refusal) (r : Replay) (a b : List ℕ) (k z : ℕ) → (unless_refused o r a b).answer ≡ Ok (Accepted k z) → (o ≡ none) × Told r k z
 accepted_case none r a b k z e = (refl, accepted_told r k z e)
 accepted_case (some f) r a b k z e = let x : ◌≡◌ {A = ℕ} 0 1 = cc in absurd (omega arith)
 
@@ -182,7 +184,7 @@ pub record Accepts (t : Tables) (start claimed rewriting : List ℕ) (c k z : �
   pub sized : z ≡ length claimed
 
 module _ (t : Tables) (start claimed rewriting a b : List ℕ) (k z : ℕ) where
-  pub accepted-accepts : (check_outcome t start claimed rewriting a b).answer ≡ Accepted k z → Accepts t start claimed rewriting (capacity a b) k z
+  pub accepted-accepts : (check_outcome t start claimed rewriting a b).answer ≡ Ok (Accepted k z) → Accepts t start claimed rewriting (capacity a b) k z
   unfolding check_outcome replay_of
   accepted-accepts e =
       let c = capacity a b in
@@ -197,17 +199,17 @@ module _ (t : Tables) (start claimed rewriting a b : List ℕ) (k z : ℕ) where
         sized = sym i.1.2 ∙ ap length en.1;
       }
 
-  pub accepts-accepted : Accepts t start claimed rewriting (capacity a b) k z → (check_outcome t start claimed rewriting a b).answer ≡ Accepted k z
+  pub accepts-accepted : Accepts t start claimed rewriting (capacity a b) k z → (check_outcome t start claimed rewriting a b).answer ≡ Ok (Accepted k z)
   unfolding check_outcome replay_of
   accepts-accepted h =
       let c = capacity a b in
       let rs = records_of rewriting in
       let en = trail_replay t c h.trail 0 [] in
       rw (passed_none t start claimed rewriting c h.passed, en.0, en.1, en.2)
-      (ap (λ (x : ℕ). Accepted x (length claimed)) (omega (arith, h.counted)) ∙ ap (λ (x : ℕ). Accepted k x) (sym h.sized))
+      (ap (λ (x : ℕ). Ok (Accepted x (length claimed))) (omega (arith, h.counted)) ∙ ap (λ (x : ℕ). Ok (Accepted k x)) (sym h.sized))
 
   -- "accepted still means that the trees are alike"
-  pub accepted_alike : (check_outcome t start claimed rewriting a b).answer ≡ Accepted k z → AlikePlans t start claimed
+  pub accepted_alike : (check_outcome t start claimed rewriting a b).answer ≡ Ok (Accepted k z) → AlikePlans t start claimed
   accepted_alike e =
       let h = accepted-accepts e in
       let lawful = (accepted_iff_lawful t).0 h.passed.tables-pass in

@@ -1,31 +1,29 @@
 -- What is judged of the records of a rewriting, one record after another: what was found before, else what is found of this one, else of those behind.
+use Rattle.std.specs.Prelude.{Result, Ok, Err, ⊤, None}
+use Rattle.std.specs.Result.{result_and}
 use Prim.Native.Nat.{ℕ, suc, ◌+◌, ◌-◌, ◌≤◌, ◌<◌}
 use native.Mathlib.Numerals.{add-one}
 use native.Mathlib.Omega.{arith}
 use mathlib.Core.Path.{◌≡◌, refl, sym, ◌∙◌, ap}
-use mathlib.Core.Logic.{◌⊎◌, inl, inr}
 use mathlib.Core.Bool.{Bool, true, false, cond, ◌&&◌}
 use mathlib.Core.List.{List, [], ◌∷◌}
-use mathlib.Core.Option.{none, some}
+use mathlib.Core.Option.{Option, none, some}
 use lib.ListN.{length, take, drop}
 use lib.Dec.{leb}
 use borrow.Author.Tests.{le-leb, lt-leb, leb-true}
 use Rattle.refusals.specs.declared.Place.TheVariants.{Nowhere, Step}
 use Rattle.refusals.specs.declared.Refusal.{Refusal}
-use Rattle.refusals.specs.declared.Judgement.{Judgement}
-use Rattle.refusals.specs.declared.Judgement.TheVariants.{Accepted, Refused}
-use Rattle.refusals.specs.Refusal.{refuse, judged}
+use Rattle.refusals.specs.Refusal.{refuse, or_else, judged}
 use Rattle.refusals.proofs.Judging.{none_of_both}
 use Rattle.plans.specs.Judging.{words_refusal}
 use Rattle.plans.proofs.Options.{never}
 use Rattle.laws.specs.Laws.{highest_law}
 use Rattle.rewritings.specs.Moves.{Move}
 use Rattle.rewritings.specs.Records.{Recorded, forward, backward, records_of, whole?}
-use Rattle.rewritings.specs.declared.Record.TheVariants.{End}
 use Rattle.rewritings.specs.Reading.{record_at}
 use Rattle.rewritings.proofs.Reading.{StepRead, BackRead, records-end, end_short, end_whole}
 use Rattle.checking.specs.Checking.{if_refused, unknown_law, left_refusal, records_refusal}
-use Rattle.checking.specs.Turns.{else_found, LawJudged, LeftJudged}
+use Rattle.checking.specs.Turns.{law_refusal, carried_refusal, else_found, LawJudged, LeftJudged}
 use Rattle.checking.proofs.Accepting.{none_refused}
 
 -- 17
@@ -78,39 +76,34 @@ module _ (n i : ℕ) (m : Move) (rs : List Recorded) where
       let j = (none_of_both (if_refused (words_refusal n left) (refuse 75 (Step i))) _).0 e in
       rw (add-one i) (none_refused _ _ j.0, j.1)
 
--- one record more judged
-module _ (k i : ℕ) where
-  pub law-before : (found : Judgement) (f : Refusal) → found ≡ Refused f → LawJudged k i found (Refused f)
-  law-before found f e p rs = rw e refl
+-- one record more judged: what was found before, else what is found of this record, else of those behind it
+first_of_three : (found : Result ⊤ Refusal) (o p : Option Refusal) → else_found (result_and found (judged o)) p ≡ else_found found (or_else o p)
+first_of_three (Ok u) none p = refl
+first_of_three (Ok u) (some f) p = refl
+first_of_three (Err f) o p = refl
 
-  pub law_passes : (found : Judgement) → 1 ≤ k → k ≤ highest_law → LawJudged k i found found
-  law_passes found low high p rs = ap (else_found found) (sym (law_known i (record { law = k; place = p }) rs low high))
+pub law-judged : (k i : ℕ) (found r : Result ⊤ Refusal) → r ≡ result_and found (judged (law_refusal k i)) → LawJudged k i found r
+unfolding unknown_law
+law-judged k i found r e p rs = rw (e, first_of_three found (law_refusal k i) (unknown_law (i + 1) rs), add-one i) (go (leb 1 k && leb k highest_law))
+  where
+    go : (b : Bool) → else_found found (or_else (cond b none (refuse 17 (Step i))) (unknown_law (suc i) rs)) ≡ else_found found (cond b (unknown_law (suc i) rs) (refuse 17 (Step i)))
+    go true = refl
+    go false = refl
 
-  pub law-refused : (found : Judgement) → found ≡ Accepted → (k < 1) ⊎ ((1 ≤ k) × (highest_law < k)) → LawJudged k i found (Refused (record { number = 17; place = Step i }))
-  law-refused found e (inl h) p rs = rw e (sym (law_low i (record { law = k; place = p }) rs h))
-  law-refused found e (inr h) p rs = rw e (sym (law_high i (record { law = k; place = p }) rs h.0 h.1))
-
-module _ (n : ℕ) (left : List ℕ) (i : ℕ) where
-  pub left-before : (found : Judgement) (f : Refusal) → found ≡ Refused f → LeftJudged n left i found (Refused f)
-  left-before found f e m rs = rw e refl
-
-  pub left-accepted : (found : Judgement) → found ≡ Accepted → words_refusal n left ≡ none → LeftJudged n left i found Accepted
-  left-accepted found e h m rs = rw e (sym (left_passes n i m rs left h))
-
-  pub left-refused : (found : Judgement) (f : Refusal) → found ≡ Accepted → words_refusal n left ≡ some f
-      → LeftJudged n left i found (Refused (record { number = 75; place = Step i }))
-  left-refused found f e h m rs = rw e (sym (left-fails n i m rs left f h))
+pub left-judged : (n : ℕ) (left : List ℕ) (i : ℕ) (found r : Result ⊤ Refusal) → r ≡ result_and found (judged (carried_refusal n left i)) → LeftJudged n left i found r
+unfolding left_refusal
+left-judged n left i found r e m rs = rw (e, first_of_three found (carried_refusal n left i) (left_refusal n (i + 1) rs), add-one i) refl
 
 -- the records are judged up to a position: what is found from there on, or was found before, is what is found of all
-pub record JudgedTo (n : ℕ) (rewriting : List ℕ) (at step : ℕ) (unknown no_plan : Judgement) : Type 0 where
+pub record JudgedTo (n : ℕ) (rewriting : List ℕ) (at step : ℕ) (unknown no_plan : Result ⊤ Refusal) : Type 0 where
   pub within : at ≤ length rewriting
   pub few : step ≤ at
   pub cut : whole? (drop at rewriting) ≡ whole? rewriting
   pub laws : else_found unknown (unknown_law step (records_of (drop at rewriting))) ≡ unknown_law 0 (records_of rewriting)
   pub lefts : else_found no_plan (left_refusal n step (records_of (drop at rewriting))) ≡ left_refusal n 0 (records_of rewriting)
 
-module _ (n : ℕ) (rewriting : List ℕ) (at step : ℕ) (unknown no_plan : Judgement) (g : JudgedTo n rewriting at step unknown no_plan) where
-  pub judged-step : (k q next : ℕ) → StepRead rewriting at k q next → (r : Judgement) → LawJudged k step unknown r → JudgedTo n rewriting next (step + 1) r no_plan
+module _ (n : ℕ) (rewriting : List ℕ) (at step : ℕ) (unknown no_plan : Result ⊤ Refusal) (g : JudgedTo n rewriting at step unknown no_plan) where
+  pub judged-step : (k q next : ℕ) → StepRead rewriting at k q next → (r : Result ⊤ Refusal) → LawJudged k step unknown r → JudgedTo n rewriting next (step + 1) r no_plan
   judged-step k q next h r j =
       let m : Move = record { law = k; place = q } in
       let rs = records_of (drop next rewriting) in
@@ -122,7 +115,7 @@ module _ (n : ℕ) (rewriting : List ℕ) (at step : ℕ) (unknown no_plan : Jud
         lefts = ap (else_found no_plan) (sym (left-forward n step m rs)) ∙ rw h.records at g.lefts;
       }
 
-  pub judged-back : (k q from next : ℕ) → BackRead rewriting at k q from next → (r : Judgement) → LeftJudged n (take (next - from) (drop from rewriting)) step no_plan r
+  pub judged-back : (k q from next : ℕ) → BackRead rewriting at k q from next → (r : Result ⊤ Refusal) → LeftJudged n (take (next - from) (drop from rewriting)) step no_plan r
       → JudgedTo n rewriting next (step + 1) unknown r
   judged-back k q from next h r j =
       let m : Move = record { law = k; place = q } in
@@ -136,11 +129,11 @@ module _ (n : ℕ) (rewriting : List ℕ) (at step : ℕ) (unknown no_plan : Jud
       }
 
   -- at the end: 16, or the first that was found
-  pub judged_cut : End ≡ record_at rewriting at → at < length rewriting → Refused (record { number = 16; place = Nowhere }) ≡ judged (records_refusal n rewriting)
+  pub judged_cut : None ≡ record_at rewriting at → at < length rewriting → Err (record { number = 16; place = Nowhere }) ≡ judged (records_refusal n rewriting)
   unfolding records_refusal
   judged_cut e h = rw (← g.cut, end_short rewriting at e h) refl
 
-  module _ (ended : End ≡ record_at rewriting at) (all : length rewriting ≤ at) where
+  module _ (ended : None ≡ record_at rewriting at) (all : length rewriting ≤ at) where
     is_whole : whole? rewriting ≡ true
     is_whole = sym g.cut ∙ end_whole rewriting at all
 
@@ -155,14 +148,17 @@ module _ (n : ℕ) (rewriting : List ℕ) (at step : ℕ) (unknown no_plan : Jud
     unfolding left_refusal
     found_lefts = rw none_left at g.lefts
 
-    pub judged_unknown : (f : Refusal) → unknown ≡ Refused f → Refused f ≡ judged (records_refusal n rewriting)
+    pub judged-all : (r : Result ⊤ Refusal) → r ≡ result_and unknown no_plan → r ≡ judged (records_refusal n rewriting)
     unfolding records_refusal
-    judged_unknown f e = rw (is_whole, ← found_laws, e) refl
-
-    pub judged_lefts : unknown ≡ Accepted → no_plan ≡ judged (records_refusal n rewriting)
-    unfolding records_refusal
-    judged_lefts e = rw (is_whole, ← found_laws, e, ← found_lefts) (stands no_plan)
+    judged-all r e = rw (e, is_whole, ← found_laws, ← found_lefts) (both unknown no_plan)
       where
-        stands : (j : Judgement) → j ≡ judged (else_found j none)
-        stands Accepted = refl
-        stands (Refused f) = refl
+        both : (u l : Result ⊤ Refusal) → result_and u l ≡ judged (or_else (else_found u none) (else_found l none))
+        both (Ok x) (Ok y) = refl
+        both (Ok x) (Err f) = refl
+        both (Err f) l = refl
+
+    pub judged_unknown : (f : Refusal) → unknown ≡ Err f → Err f ≡ judged (records_refusal n rewriting)
+    judged_unknown f e = judged-all (Err f) (rw e refl)
+
+    pub judged_lefts : unknown ≡ Ok tt → no_plan ≡ judged (records_refusal n rewriting)
+    judged_lefts e = judged-all no_plan (rw e refl)

@@ -5,6 +5,7 @@ use native.Mathlib.Omega.{arith}
 use mathlib.Core.Path.{◌≡◌, refl, sym, ◌∙◌, subst}
 use mathlib.Core.List.{List, [], ◌∷◌}
 use mathlib.Core.Option.{Option, none, some}
+use Rattle.std.specs.Prelude.{Result, Ok, Err}
 use lib.ListN.{length, take, drop}
 use borrow.Author.Tests.{lt-ltb, le-ltb}
 use Rattle.areas.specs.Area.{most_words}
@@ -15,9 +16,10 @@ use Rattle.laws.specs.Laws.{highest_law}
 use Rattle.laws.specs.Step.{step, step_back}
 use Rattle.rewritings.specs.Records.{Recorded, forward, backward, records_of}
 use Rattle.buffer.specs.declared.State.{State}
-use Rattle.steps.specs.declared.Attempt.{Attempt}
-use Rattle.steps.specs.declared.Attempt.TheVariants.{Done, Fails, Long}
-use Rattle.steps.specs.Working.{plan_in, Working, Same, Stepping, done, fails, long}
+use Rattle.steps.specs.declared.Fault.{Fault}
+use Rattle.steps.specs.declared.Fault.TheVariants.{DoesNotFit, TooLong}
+use Rattle.steps.specs.declared.NotMade.{NotMade}
+use Rattle.steps.specs.Working.{plan_in, Working, fault_number, Same, Stepping, done, fails, long}
 use Rattle.checking.specs.Turns.{compared, Replayed}
 use Rattle.checking.specs.Checking.{step_of, unknown_law, left_refusal, replay}
 use Rattle.rewritings.proofs.Reading.{StepRead, BackRead}
@@ -53,7 +55,7 @@ pub record Going (t : Tables) (c : ℕ) (rewriting w v : List ℕ) (at : ℕ) (l
 module _ (t : Tables) (c : ℕ) (rewriting w v : List ℕ) (at : ℕ) (left starts right old : List ℕ) (s : State)
     (g : Going t c rewriting w v at left starts right old s) where
   -- no record is left
-  pub turn_end : records_of (drop at rewriting) ≡ [] → Replayed t c (records_of rewriting) 0 w v left starts right old (record { number = 0; state = s })
+  pub turn_end : records_of (drop at rewriting) ≡ [] → Replayed t c (records_of rewriting) 0 w v left starts right old (Ok s)
   unfolding replay compared
   turn_end e = record { working = g.working; kept = g.kept; outcome = λ claimed. sym (g.rest claimed) ∙ rw e refl }
 
@@ -93,11 +95,12 @@ module _ (t : Tables) (c : ℕ) (rewriting w v : List ℕ) (at : ℕ) (left star
           passing_on = left-next.1;
         }
 
-  module _ (r : Recorded) (next : ℕ) (u : Turn r next) (left' starts' right' old' : List ℕ) (s' : State) where
+  module _ (r : Recorded) (next : ℕ) (u : Turn r next) (left' starts' right' old' : List ℕ) where
     abbrev given : Option (List ℕ)
     given = step_of t r (plan_in left right s)
 
-    after-done : length old' ≡ length old → Stepping t given c left starts right old left' starts' right' old' s (Done s') → Going t c rewriting w v next left' starts' right' old' s'
+    after-done : {s' : State} → length old' ≡ length old → Stepping t given c left starts right old left' starts' right' old' s (Ok s')
+        → Going t c rewriting w v next left' starts' right' old' s'
     after-done as_long (done x n e h made) =
         record {
           working = made.working;
@@ -113,12 +116,12 @@ module _ (t : Tables) (c : ℕ) (rewriting w v : List ℕ) (at : ℕ) (left star
         }
 
     -- the state is moved alone
-    stopped : (number : ℕ) → Same t left starts right left' starts' right' s s' → old' ≡ old
-        → ((claimed : List ℕ) → compared number (plan_in left right s) claimed ≡ number)
+    stopped : (s' : State) (fault : Fault) → Same t left starts right left' starts' right' s s' → old' ≡ old
+        → ((claimed : List ℕ) → compared (fault_number fault) (plan_in left right s) claimed ≡ fault_number fault)
         → ((claimed : List ℕ) → replay t c claimed (records_of (drop at rewriting)) s.made.steps (plan_in left right s) (before s.made (plan_in left right s) old)
-        ≡ record { number = number; steps = s.made.steps; plan = plan_in left right s; before = before s.made (plan_in left right s) old })
-        → Replayed t c (records_of rewriting) 0 w v left' starts' right' old' (record { number = number; state = s' })
-    stopped number same e o f =
+        ≡ record { number = fault_number fault; steps = s.made.steps; plan = plan_in left right s; before = before s.made (plan_in left right s) old })
+        → Replayed t c (records_of rewriting) 0 w v left' starts' right' old' (Err (record { fault = fault; state = s' }))
+    stopped s' fault same e o f =
         record {
           working = same.working;
           kept = rw (same.same_plan, e, same.same_step) g.kept;
@@ -127,39 +130,32 @@ module _ (t : Tables) (c : ℕ) (rewriting w v : List ℕ) (at : ℕ) (left star
               (sym (g.rest claimed) ∙ f claimed);
         }
 
-    after-fails : Stepping t given c left starts right old left' starts' right' old' s (Fails s')
-        → Replayed t c (records_of rewriting) 0 w v left' starts' right' old' (record { number = 31; state = s' })
+    after-stopped : {e : NotMade} → Stepping t given c left starts right old left' starts' right' old' s (Err e)
+        → Replayed t c (records_of rewriting) 0 w v left' starts' right' old' (Err e)
     unfolding compared
-    after-fails (fails x e same o) =
-        stopped 31 same o (λ claimed. refl)
+    after-stopped (fails s' e same o) =
+        stopped s' DoesNotFit same o (λ claimed. refl)
         (λ claimed. rw u.records (replay-fails t c claimed r (records_of (drop next rewriting)) s.made.steps (plan_in left right s) (before s.made (plan_in left right s) old) e))
-
-    after-long : Stepping t given c left starts right old left' starts' right' old' s (Long s')
-        → Replayed t c (records_of rewriting) 0 w v left' starts' right' old' (record { number = 32; state = s' })
-    unfolding compared
-    after-long (long x n e h same o) =
-        stopped 32 same o (λ claimed. refl)
+    after-stopped (long s' n e h same o) =
+        stopped s' TooLong same o (λ claimed. refl)
         (λ claimed. rw u.records (replay-long t c claimed r (records_of (drop next rewriting)) s.made.steps (plan_in left right s) (before s.made (plan_in left right s) old) n e h))
 
     -- by what a step of a rewriting answers
-    module _ (r' : Attempt) (p : Stepping t given c left starts right old left' starts' right' old' s r') where
-      pub turn-done : length old' ≡ length old → r' ≡ Done s' → Going t c rewriting w v next left' starts' right' old' s'
-      turn-done as_long e = after-done as_long (subst (Stepping t given c left starts right old left' starts' right' old' s) e p)
+    module _ (r' : Result State NotMade) (p : Stepping t given c left starts right old left' starts' right' old' s r') where
+      pub turn-done : (s' : State) → length old' ≡ length old → r' ≡ Ok s' → Going t c rewriting w v next left' starts' right' old' s'
+      turn-done s' as_long e = after-done as_long (subst (Stepping t given c left starts right old left' starts' right' old' s) e p)
 
-      pub turn-fails : r' ≡ Fails s' → Replayed t c (records_of rewriting) 0 w v left' starts' right' old' (record { number = 31; state = s' })
-      turn-fails e = after-fails (subst (Stepping t given c left starts right old left' starts' right' old' s) e p)
-
-      pub turn-long : r' ≡ Long s' → Replayed t c (records_of rewriting) 0 w v left' starts' right' old' (record { number = 32; state = s' })
-      turn-long e = after-long (subst (Stepping t given c left starts right old left' starts' right' old' s) e p)
+      pub turn-stopped : (e : NotMade) → r' ≡ Err e → Replayed t c (records_of rewriting) 0 w v left' starts' right' old' (Err e)
+      turn-stopped e q = after-stopped (subst (Stepping t given c left starts right old left' starts' right' old' s) q p)
 
 -- what the step of a record gives is what the law gives in its direction
-pub forward_of : (t : Tables) (k p c : ℕ) (left starts right old left' starts' right' old' : List ℕ) (s : State) (r : Attempt)
+pub forward_of : (t : Tables) (k p c : ℕ) (left starts right old left' starts' right' old' : List ℕ) (s : State) (r : Result State NotMade)
     → Stepping t (step t k p (plan_in left right s)) c left starts right old left' starts' right' old' s r
     → Stepping t (step_of t (forward (record { law = k; place = p })) (plan_in left right s)) c left starts right old left' starts' right' old' s r
 unfolding step_of
 forward_of t k p c left starts right old left' starts' right' old' s r h = h
 
-pub backward_of : (t : Tables) (k p c : ℕ) (carried left starts right old left' starts' right' old' : List ℕ) (s : State) (r : Attempt)
+pub backward_of : (t : Tables) (k p c : ℕ) (carried left starts right old left' starts' right' old' : List ℕ) (s : State) (r : Result State NotMade)
     → Stepping t (step_back t k p carried (plan_in left right s)) c left starts right old left' starts' right' old' s r
     → Stepping t (step_of t (backward (record { law = k; place = p }) carried) (plan_in left right s)) c left starts right old left' starts' right' old' s r
 unfolding step_of

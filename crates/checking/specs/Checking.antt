@@ -1,6 +1,6 @@
 -- The checker: the replay of a rewriting, with steps of both directions, its answer and what it leaves in the areas. (01, "Checking" and the two sections
 -- on turning back; request 108.)
-use Rattle.std.specs.Prelude.{ℕ, suc, Bool, true, false, cond, ◌&&◌, List, [], ◌∷◌, length, eqb, leb, ltb}
+use Rattle.std.specs.Prelude.{ℕ, suc, Bool, true, false, cond, ◌&&◌, List, [], ◌∷◌, length, eqb, leb, ltb, Result, Ok, Err}
 use Rattle.std.proofs.Math.Option.{Option, none, some}
 use Rattle.refusals.specs.declared.Place.TheVariants.{Nowhere, Step}
 use Rattle.refusals.specs.declared.Refusal.{Refusal}
@@ -11,7 +11,7 @@ use Rattle.plans.specs.Judging.{plan_refusal, words_refusal}
 use Rattle.laws.specs.Laws.{highest_law, same_bytes}
 use Rattle.laws.specs.Step.{step, step_back}
 use Rattle.checking.specs.declared.Checked.{Checked}
-use Rattle.checking.specs.declared.Checked.TheVariants.{Accepted, TurnedBack, Refused}
+use Rattle.checking.specs.declared.Checked.TheVariants.{Accepted, TurnedBack}
 use Rattle.rewritings.specs.Records.{Recorded, forward, backward, records_of, whole?}
 
 -- a replay: how it ended (0 accepted, or 31 to 33), the steps made, the plan reached and the plan before it
@@ -88,12 +88,12 @@ replay_of t start claimed rewriting c = replay t c claimed (records_of rewriting
 
 -- everything that a check answers and leaves
 pub record CheckOutcome : Type 0 where
-  pub answer : Checked
+  pub answer : Result Checked Refusal
   pub a : List ℕ
   pub b : List ℕ
 
-abbrev pub checked : Replay → Checked
-checked r = cond (eqb r.number 0) (Accepted r.steps (length r.plan)) (TurnedBack r.number r.steps (length r.plan))
+abbrev pub checked : Replay → Result Checked Refusal
+checked r = cond (eqb r.number 0) (Ok (Accepted r.steps (length r.plan))) (Ok (TurnedBack r.number r.steps (length r.plan)))
 
 -- "Areas afterwards are as in unfolding, after the steps made."
 abbrev pub settled : Replay → List ℕ → List ℕ → CheckOutcome
@@ -105,7 +105,7 @@ settled r a b =
     }
 
 abbrev pub unless_refused : Option Refusal → Replay → List ℕ → List ℕ → CheckOutcome
-unless_refused (some f) r a b = record { answer = Refused f; a = a; b = b }
+unless_refused (some f) r a b = record { answer = Err f; a = a; b = b }
 unless_refused none r a b = settled r a b
 
 unfoldable pub check_outcome : Tables → List ℕ → List ℕ → List ℕ → List ℕ → List ℕ → CheckOutcome

@@ -2,143 +2,106 @@
 #![tactic(auto)]
 
 ghost use Rattle.std.specs.Prelude.{◌≡◌, cond, ◌+◌, ◌≤◌, ◌<◌, length, take};
-ghost use Rattle.std.proofs.Math.Option.{none};
+ghost use Rattle.std.proofs.Math.Option.{none, some};
 ghost use Rattle.refusals.specs.Refusal.{judged};
 ghost use Rattle.areas.specs.Area.{most_words};
 ghost use Rattle.areas.specs.Storing.{before, Kept};
 ghost use Rattle.tables.specs.Tables.{actions};
 ghost use Rattle.tables.specs.Lawful.{Lawful};
 ghost use Rattle.areas.specs.Reached.{capacity};
-ghost use Rattle.plans.specs.Judging.{plan_refusal};
+ghost use Rattle.plans.specs.Judging.{plan_refusal, words_refusal};
 ghost use Rattle.laws.specs.Laws.{same_bytes};
 ghost use Rattle.steps.specs.Working.{plan_in, Working};
 ghost use Rattle.rewritings.specs.Records.{records_of};
-ghost use Rattle.checking.specs.Checking.{unknown_law, left_refusal, records_refusal, rewriting_refusal};
+ghost use Rattle.checking.specs.Checking.{if_refused, unknown_law, left_refusal, records_refusal, rewriting_refusal};
 ghost use Rattle.checking.specs.Checking.{replay_of, settled, check_outcome, CheckOutcome};
-ghost use Rattle.checking.specs.Turns.{LawJudged, LeftJudged, Replayed};
+ghost use Rattle.checking.specs.Turns.{law_refusal, state_of, Replayed};
 
 use areas::MOST_WORDS;
 use buffer::State;
-use refusals::{Judgement, Place, Refusal};
+use refusals::{Place, Reason, Refusal};
 use rewritings::Record;
-use steps::Attempt;
+use steps::NotMade;
 
-// What a check answers: accepted; or turned back by how far it had come (31, 32, 33); or refused by what was handed in.
+// What a check answers: accepted; or turned back by how far it had come (31, 32, 33); a refusal of what was handed in is the error beside it.
 #[derive(Clone, Copy)]
 pub enum Checked {
     Accepted {
         steps: usize,
         size: usize,
     },
+    // a number, since the claims of `check_rewriting` speak of it
     TurnedBack {
         number: u8,
         steps: usize,
         size: usize,
     },
-    Refused(Refusal),
 }
 
-// How a replay ended: 31 or 32, or 0 where all steps were made.
-#[derive(Clone, Copy)]
-pub struct Last {
-    pub number: u8,
-    pub state: State,
-}
+// 33: all steps are replayed, and the end differs from the claimed plan.
+const OTHER_END: u8 = 33;
 
-// Judges the law of a step from left to right, unless something was found before: 17 where it is 0 or above 32.
-fn judge_law(found: Judgement, law: u8, step: usize) -> Judgement
-    ensures { LawJudged law step found result }
+// Judges the law of a step from left to right: 17 where it is 0 or above 32.
+fn judge_law(law: u8, step: usize) -> Result<(), Refusal>
+    ensures { result ≡ judged (law_refusal law step) }
 {
     if law < 1 || laws::HIGHEST_LAW < law {
-        return match found {
-            Judgement::Refused(refusal) => Judgement::Refused(refusal),
-            Judgement::Accepted => Judgement::Refused(Refusal {
-                number: 17,
-                place: Place::Step(step),
-            }),
-        };
+        return Err(Refusal::at(Reason::UnknownLaw, Place::Step(step)));
     }
-    found
+    Ok(())
 }
 
-// Judges the left side that a step carries, unless something was found before: 75 where it is not an accepted plan.
-fn judge_left(found: Judgement, n: u8, carried: &[u8], step: usize) -> Judgement
+// Judges words that are to be an accepted plan: this refusal where they are none.
+fn judge_words_as(n: u8, words: &[u8], refusal: Refusal) -> Result<(), Refusal>
     requires { n ≤ 31 }
-    ensures { LeftJudged n carried.now step found result }
+    ensures { result ≡ judged (if_refused (words_refusal n words.now) (some refusal)) }
 {
-    match found {
-        Judgement::Refused(refusal) => Judgement::Refused(refusal),
-        Judgement::Accepted => match plans::judge_words(n, carried) {
-            Judgement::Refused(_) => Judgement::Refused(Refusal {
-                number: 75,
-                place: Place::Step(step),
-            }),
-            Judgement::Accepted => Judgement::Accepted,
-        },
-    }
+    plans::judge_words(n, words).map_err(|_| refusal)
 }
 
 // Judges the records of a rewriting in one pass: 16, 17 and 75, each of all of it before the next.
-fn judge_records(n: u8, rewriting: &[u8]) -> Judgement
+fn judge_records(n: u8, rewriting: &[u8]) -> Result<(), Refusal>
     requires { n ≤ 31 }
     ensures { result ≡ judged (records_refusal n rewriting.now) }
 {
-    let mut at: usize = 0;
-    let mut step: usize = 0;
-    let mut unknown = Judgement::Accepted;
-    let mut no_plan = Judgement::Accepted;
-    loop {
-        let record = rewritings::record_at(rewriting, at);
+    let mut at = 0;
+    let mut step = 0;
+    let mut unknown = Ok(());
+    let mut no_plan = Ok(());
+    while let Some(record) = rewritings::record_at(rewriting, at) {
         match record {
-            Record::End => {
-                if at < rewriting.len() {
-                    return Judgement::Refused(Refusal {
-                        number: 16,
-                        place: Place::Nowhere,
-                    });
-                }
-                match unknown {
-                    Judgement::Refused(refusal) => {
-                        return Judgement::Refused(refusal);
-                    }
-                    Judgement::Accepted => {
-                        return no_plan;
-                    }
-                }
-            }
-            Record::Step(law, _, next) => {
-                unknown = judge_law(unknown, law, step);
+            Record::Step { law, next, .. } => {
+                unknown = unknown.and(judge_law(law, step));
                 at = next;
-                step += 1;
             }
-            Record::Back(_, _, from, next) => {
-                no_plan = judge_left(no_plan, n, &rewriting[from..next], step);
+            Record::Back { from, next, .. } => {
+                let refusal = Refusal::at(Reason::CarriedPlan, Place::Step(step));
+                no_plan = no_plan.and(judge_words_as(n, &rewriting[from..next], refusal));
                 at = next;
-                step += 1;
             }
         }
+        step += 1;
     }
+    if at < rewriting.len() {
+        return Err(Refusal::from(Reason::RecordCutShort));
+    }
+    unknown.and(no_plan)
 }
 
 // Judges what a checker is handed besides tables and start plan: 18, 15, and then the records.
-fn judge_rewriting(n: u8, start: &[u8], claimed: &[u8], rewriting: &[u8], limit: usize) -> Judgement
+fn judge_rewriting(
+    n: u8,
+    start: &[u8],
+    claimed: &[u8],
+    rewriting: &[u8],
+    limit: usize,
+) -> Result<(), Refusal>
     requires { n ≤ 31 }
     ensures { result ≡ judged (rewriting_refusal n start.now claimed.now rewriting.now limit) }
 {
-    match plans::judge_words(n, claimed) {
-        Judgement::Refused(_) => {
-            return Judgement::Refused(Refusal {
-                number: 18,
-                place: Place::Nowhere,
-            });
-        }
-        Judgement::Accepted => {}
-    }
+    judge_words_as(n, claimed, Refusal::from(Reason::ClaimedPlan))?;
     if limit < start.len() {
-        return Judgement::Refused(Refusal {
-            number: 15,
-            place: Place::Nowhere,
-        });
+        return Err(Refusal::from(Reason::OverCapacity));
     }
     judge_records(n, rewriting)
 }
@@ -154,7 +117,7 @@ fn replay_on(
     old: &mut [u8],
     state: State,
     limit: usize,
-) -> Last
+) -> Result<State, NotMade>
     requires n_value { (n ≡ actions tables.now) × Lawful tables.now × (limit ≤ most_words) × (length old.old ≡ most_words)
         × (unknown_law 0 (records_of rewriting.now) ≡ none) × (left_refusal n 0 (records_of rewriting.now) ≡ none) }
     requires working { Working tables.now left.old starts.old right.old state
@@ -165,82 +128,39 @@ fn replay_on(
         left.new starts.new right.new old.new result }
 {
     let mut gap = state;
-    let mut at: usize = 0;
-    loop {
-        let record = rewritings::record_at(rewriting, at);
+    let mut at = 0;
+    while let Some(record) = rewritings::record_at(rewriting, at) {
         match record {
-            Record::End => {
-                return Last {
-                    number: 0,
-                    state: gap,
-                };
+            Record::Step { law, place, next } => {
+                gap = steps::make_step(
+                    tables, n, law, place, left, starts, right, old, gap, limit,
+                )?;
+                at = next;
             }
-            Record::Step(law, place, next) => {
-                let made = steps::make_step(
-                    tables,
-                    n,
-                    law,
-                    place,
-                    &mut *left,
-                    &mut *starts,
-                    &mut *right,
-                    &mut *old,
-                    gap,
-                    limit,
-                );
-                match made {
-                    Attempt::Done(after) => {
-                        gap = after;
-                        at = next;
-                    }
-                    Attempt::Fails(last) => {
-                        return Last {
-                            number: 31,
-                            state: last,
-                        };
-                    }
-                    Attempt::Long(last) => {
-                        return Last {
-                            number: 32,
-                            state: last,
-                        };
-                    }
-                }
-            }
-            Record::Back(law, place, from, next) => {
-                let made = steps::step_back(
-                    tables,
-                    n,
-                    law,
-                    place,
-                    &rewriting[from..next],
-                    &mut *left,
-                    &mut *starts,
-                    &mut *right,
-                    &mut *old,
-                    gap,
-                    limit,
-                );
-                match made {
-                    Attempt::Done(after) => {
-                        gap = after;
-                        at = next;
-                    }
-                    Attempt::Fails(last) => {
-                        return Last {
-                            number: 31,
-                            state: last,
-                        };
-                    }
-                    Attempt::Long(last) => {
-                        return Last {
-                            number: 32,
-                            state: last,
-                        };
-                    }
-                }
+            Record::Back {
+                law,
+                place,
+                from,
+                next,
+            } => {
+                let carried = &rewriting[from..next];
+                gap = steps::step_back(
+                    tables, n, law, place, carried, left, starts, right, old, gap, limit,
+                )?;
+                at = next;
             }
         }
+    }
+    Ok(gap)
+}
+
+// The state in which a replay ended, or stopped.
+fn last_state(replayed: Result<State, NotMade>) -> State
+    ensures { result ≡ state_of replayed }
+{
+    match replayed {
+        Ok(end) => end,
+        Err(stopped) => stopped.state,
     }
 }
 
@@ -249,11 +169,8 @@ fn reached(a: &[u8], b: &[u8], even: bool, size: usize, claimed: &[u8]) -> bool
     requires { (size ≤ length a.now) × (size ≤ length b.now) }
     ensures { result ≡ same_bytes (take size (cond even a.now b.now)) claimed.now }
 {
-    if even {
-        matching::same_words(&a[..size], claimed)
-    } else {
-        matching::same_words(&b[..size], claimed)
-    }
+    let plan = if even { a } else { b };
+    matching::same_words(&plan[..size], claimed)
 }
 
 // Checks a rewriting of an accepted plan that the areas can hold, of whose records nothing is refused.
@@ -265,7 +182,7 @@ fn check_accepted(
     limit: usize,
     a: &mut [u8],
     b: &mut [u8],
-) -> Checked
+) -> Result<Checked, Refusal>
     requires { (plan_refusal tables.now start.now ≡ none) × (limit ≡ capacity a.old b.old) × (length start.now ≤ limit)
         × (unknown_law 0 (records_of rewriting.now) ≡ none) × (left_refusal (actions tables.now) 0 (records_of rewriting.now) ≡ none) }
     ensures { ◌≡◌ {A = CheckOutcome} (record { answer = result; a = a.new; b = b.new })
@@ -273,12 +190,13 @@ fn check_accepted(
         a.old b.old) }
 {
     let n = tables::actions_of(tables);
+    // a plan under work in arrays of fixed length: nothing is allocated
     let mut left = [0u8; MOST_WORDS];
     let mut starts = [0u16; MOST_WORDS];
     let mut right = [0u8; MOST_WORDS];
     let mut old = [0u8; MOST_WORDS];
     let state = buffer::load(start, &mut right);
-    let last = replay_on(
+    let replayed = replay_on(
         tables,
         n,
         rewriting,
@@ -289,29 +207,25 @@ fn check_accepted(
         state,
         limit,
     );
-    let number = last.number;
-    let end = last.state;
-    let read = end.read;
-    let rest = end.rest;
-    let made = end.made;
+    let State { read, rest, made } = last_state(replayed);
     let size = areas::store(&left[..read], &right[rest..], &old, made, &mut *a, &mut *b);
     let steps = made.steps;
-    let even = made.even;
-    if number != 0 {
-        return Checked::TurnedBack {
+    if let Err(stopped) = replayed {
+        let number = stopped.fault.number();
+        return Ok(Checked::TurnedBack {
             number,
             steps,
             size,
-        };
+        });
     }
-    if reached(&*a, &*b, even, size, claimed) {
-        return Checked::Accepted { steps, size };
+    if reached(&*a, &*b, made.even, size, claimed) {
+        return Ok(Checked::Accepted { steps, size });
     }
-    Checked::TurnedBack {
-        number: 33,
+    Ok(Checked::TurnedBack {
+        number: OTHER_END,
         steps,
         size,
-    }
+    })
 }
 
 // Checks a rewriting, with steps of both directions, from a start plan to a claimed end plan.
@@ -322,23 +236,13 @@ pub fn check_rewriting(
     rewriting: &[u8],
     a: &mut [u8],
     b: &mut [u8],
-) -> Checked
+) -> Result<Checked, Refusal>
     ensures whole { ◌≡◌ {A = CheckOutcome} (record { answer = result; a = a.new; b = b.new })
         (check_outcome tables.now start.now claimed.now rewriting.now a.old b.old) }
 {
-    match plans::judge_plan(tables, start) {
-        Judgement::Refused(refusal) => {
-            return Checked::Refused(refusal);
-        }
-        Judgement::Accepted => {}
-    }
+    plans::judge_plan(tables, start)?;
     let n = tables::actions_of(tables);
     let limit = areas::least(a.len(), b.len());
-    match judge_rewriting(n, start, claimed, rewriting, limit) {
-        Judgement::Refused(refusal) => {
-            return Checked::Refused(refusal);
-        }
-        Judgement::Accepted => {}
-    }
+    judge_rewriting(n, start, claimed, rewriting, limit)?;
     check_accepted(tables, start, claimed, rewriting, limit, a, b)
 }

@@ -1,5 +1,6 @@
 -- How a run with limits ends, by the steps that the run without limits needs; so what is claimed of an unfolding for its allowance holds of what the
 -- definitions say that it answers and leaves.
+use Rattle.std.specs.Prelude.{Ok}
 use Prim.Native.Nat.{ℕ, suc, ◌+◌, ◌-◌, ◌*◌, ◌≤◌, ◌<◌}
 use native.Mathlib.Omega.{arith}
 use mathlib.Core.Path.{◌≡◌, refl, sym, ◌∙◌, ap, subst}
@@ -147,19 +148,19 @@ module _ (t : Tables) (plan list a b : List ℕ) (ok : unfold_refusal t plan (ca
   O m = settled (R m) list a b
 
   -- the answer of a run by its number
-  said-finished : (r : Run) → r.number ≡ 0 → unfolded r ≡ Finished r.steps (length r.plan)
+  said-finished : (r : Run) → r.number ≡ 0 → unfolded r ≡ Ok (Finished r.steps (length r.plan))
   said-finished r e = rw (eq-eqb r.number 0 e)
 
-  said-stopped : (r : Run) (k : ℕ) → r.number ≡ suc k → unfolded r ≡ Stopped (suc k) r.steps (length r.plan)
+  said-stopped : (r : Run) (k : ℕ) → r.number ≡ suc k → unfolded r ≡ Ok (Stopped (suc k) r.steps (length r.plan))
   said-stopped r k e = rw (ne_eqb r.number 0 (λ q. absurd (omega (arith, e, q))), e)
 
-  finished-number : (m s z : ℕ) → (O m).answer ≡ Finished s z → (R m).number ≡ 0
+  finished-number : (m s z : ℕ) → (O m).answer ≡ Ok (Finished s z) → (R m).number ≡ 0
   finished-number m s z e = (told (R m) s z (shown-finished e)).finished_told.0 e
 
-  stopped-number : (m k s z : ℕ) → (O m).answer ≡ Stopped k s z → (R m).number ≡ k
+  stopped-number : (m k s z : ℕ) → (O m).answer ≡ Ok (Stopped k s z) → (R m).number ≡ k
   stopped-number m k s z e = ((told (R m) s z (shown-stopped k e)).stopped_told k e).0
 
-  stopping : (m k s z : ℕ) → (O m).answer ≡ Stopped k s z → Stops t m (length list) c (R m).plan (R m).steps (R m).number
+  stopping : (m k s z : ℕ) → (O m).answer ≡ Ok (Stopped k s z) → Stops t m (length list) c (R m).plan (R m).steps (R m).number
   stopping m k s z e = ends-stopped (run_ends t plan m (length list) c) ((told (R m) s z (shown-stopped k e)).stopped_told k e).1
 
   -- the same unfolding once more
@@ -198,7 +199,7 @@ module _ (t : Tables) (plan list a b : List ℕ) (ok : unfold_refusal t plan (ca
       rw (reached_told (R m) s z (length a) (length b) o)
       (omega (arith, i.1, o.steps_told), record { made = subst (λ (k : ℕ). Steps t k (R m).plan end) e i.2; basic = comes.basic })
 
-  helps : (m s z : ℕ) → (O m).answer ≡ Stopped 34 s z
+  helps : (m s z : ℕ) → (O m).answer ≡ Ok (Stopped 34 s z)
       → ((n : ℕ) × (m < n) × (n ≤ most_steps) × FinishesWith (unfold_given t plan m list a b) n)
       ↔ ((needed ≤ most_steps) × (3 * needed ≤ length list) × Within t c (reached_in (O m) s z))
   helps m s z e =
@@ -256,19 +257,19 @@ module _ (t : Tables) (plan list a b : List ℕ) (ok : unfold_refusal t plan (ca
       ended_at : (R m).number ≡ 0 → ((R m).steps ≡ needed) × ((R m).plan ≡ end)
       ended_at = finished_at t plan (length list) c fits needed end comes.made quiet m
 
-      finished_so : (s z : ℕ) → (O m).answer ≡ Finished s z → Held t plan needed (length list) c × (needed ≤ m) × (s ≡ needed) × (z ≡ length end)
+      finished_so : (s z : ℕ) → (O m).answer ≡ Ok (Finished s z) → Held t plan needed (length list) c × (needed ≤ m) × (s ≡ needed) × (z ≡ length end)
       finished_so s z e =
           let o = told (R m) s z (shown-finished e) in
           let n = finished-number m s z e in
           let h = finished-held t plan (length list) c fits needed end comes.made quiet m n in
           (h.0, h.1, o.steps_told ∙ (ended_at n).0, o.size_told ∙ ap length (ended_at n).1)
 
-      finishes_so : (s z : ℕ) → Held t plan needed (length list) c → needed ≤ m → s ≡ needed → z ≡ length end → (O m).answer ≡ Finished s z
+      finishes_so : (s z : ℕ) → Held t plan needed (length list) c → needed ≤ m → s ≡ needed → z ≡ length end → (O m).answer ≡ Ok (Finished s z)
       finishes_so s z h d i j =
           let n = held-finishes t plan (length list) c fits needed end comes.made quiet m h d in
           said-finished (R m) n ∙ rw ((ended_at n).0, (ended_at n).1, i, j)
 
-      fewer : Held t plan needed (length list) c → m < needed → (z : ℕ) × ((O m).answer ≡ Stopped 34 m z)
+      fewer : Held t plan needed (length list) c → m < needed → (z : ℕ) × ((O m).answer ≡ Ok (Stopped 34 m z))
       fewer h d =
           let u = too_few t plan (length list) c fits needed end comes.made quiet m (run_ends t plan m (length list) c) h d in
-          (length (R m).plan, said-stopped (R m) 33 u.0 ∙ ap (λ (k : ℕ). Stopped 34 k (length (R m).plan)) u.1)
+          (length (R m).plan, said-stopped (R m) 33 u.0 ∙ ap (λ (k : ℕ). Ok (Stopped 34 k (length (R m).plan))) u.1)

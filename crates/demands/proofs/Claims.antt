@@ -1,4 +1,5 @@
 -- Demand 3, entire: what is claimed of an unfolding and of a check holds of what the definitions say that they answer and leave.
+use Rattle.std.specs.Prelude.{Ok}
 use Prim.Native.Nat.{ℕ, ◌≤◌, ◌<◌, ◌*◌}
 use native.Mathlib.Omega.{arith}
 use mathlib.Core.Path.{◌≡◌, refl, sym, ◌∙◌, ap}
@@ -61,7 +62,7 @@ module _ (t : Tables) (plan : List ℕ) (m l c : ℕ) (p : AcceptedPlan t plan) 
 
   -- the own rewriting is whole, and its replay in areas that hold as much accepts
   own-accepted : (a b : List ℕ) → capacity a b ≡ c
-      → (check_outcome t plan R.plan (bytes_of R.moves) a b).answer ≡ Accepted R.steps (length R.plan)
+      → (check_outcome t plan R.plan (bytes_of R.moves) a b).answer ≡ Ok (Accepted R.steps (length R.plan))
   unfolding check_outcome check_refusal rewriting_refusal records_refusal replay_of
   own-accepted a b h =
       let lawed : LawedAll (forwards R.moves) = rw F.is_own F.lawed in

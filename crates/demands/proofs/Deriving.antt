@@ -1,4 +1,5 @@
 -- A check accepts exactly the derivations: what is not refused, with records that lead, each fitting as people read it, to the claimed plan.
+use Rattle.std.specs.Prelude.{Ok}
 use Prim.Native.Nat.{ℕ}
 use mathlib.Core.Path.{◌≡◌}
 use mathlib.Core.List.{List, [], ◌∷◌}
@@ -67,7 +68,7 @@ module _ (t : Tables) (start claimed rewriting a b : List ℕ) (k z : ℕ) where
   abbrev rs : List Recorded
   rs = records_of rewriting
 
-  accepted_derivation : (check_outcome t start claimed rewriting a b).answer ≡ Accepted k z → Derivation (check_given t start claimed rewriting a b) k z
+  accepted_derivation : (check_outcome t start claimed rewriting a b).answer ≡ Ok (Accepted k z) → Derivation (check_given t start claimed rewriting a b) k z
   accepted_derivation e =
       let h = accepted-accepts t start claimed rewriting a b k z e in
       let p = h.passed in
@@ -84,7 +85,7 @@ module _ (t : Tables) (start claimed rewriting a b : List ℕ) (k z : ℕ) where
         sized = h.sized;
       }
 
-  derivation_accepted : Derivation (check_given t start claimed rewriting a b) k z → (check_outcome t start claimed rewriting a b).answer ≡ Accepted k z
+  derivation_accepted : Derivation (check_given t start claimed rewriting a b) k z → (check_outcome t start claimed rewriting a b).answer ≡ Ok (Accepted k z)
   derivation_accepted d =
       let lawful = d.accepted_start.lawful in
       let free = good_none (actions t) 0 rs (taken_all_good t rs d.taken) in
@@ -104,5 +105,5 @@ module _ (t : Tables) (start claimed rewriting a b : List ℕ) (k z : ℕ) where
         sized = d.sized;
       }
 
-  pub accepted_exactly : ((check_outcome t start claimed rewriting a b).answer ≡ Accepted k z) ↔ Derivation (check_given t start claimed rewriting a b) k z
+  pub accepted_exactly : ((check_outcome t start claimed rewriting a b).answer ≡ Ok (Accepted k z)) ↔ Derivation (check_given t start claimed rewriting a b) k z
   accepted_exactly = (accepted_derivation, derivation_accepted)

@@ -1,6 +1,6 @@
 -- What the answer of a run reports, and that the plan reached and the rewriting are read off the areas and the list that it leaves.
+use Rattle.std.specs.Prelude.{Result, Ok, Err}
 use Prim.Native.Nat.{ℕ, ◌≤◌, ◌*◌}
-use native.Mathlib.Omega.{arith}
 use mathlib.Core.Path.{◌≡◌, refl, sym}
 use mathlib.Core.Bool.{Bool, true, false, cond}
 use mathlib.Core.List.{List}
@@ -22,7 +22,7 @@ use Rattle.plans.proofs.Accepted.{accepted-plan}
 use Rattle.rewritings.specs.Moves.{bytes_of}
 use Rattle.rewritings.specs.Runs.{Run}
 use Rattle.unfolding.specs.declared.Unfolded.{Unfolded}
-use Rattle.unfolding.specs.declared.Unfolded.TheVariants.{Finished, Stopped, Refused}
+use Rattle.unfolding.specs.declared.Unfolded.TheVariants.{Finished, Stopped}
 use Rattle.unfolding.specs.Unfolding.{unfolded, unfold_refusal}
 use Rattle.demands.specs.Reports.{Reports, finished, stopped, own_rewriting}
 
@@ -51,23 +51,23 @@ unfold_accepts t plan c = (
     go false f q e = ltb-false c (length plan) q
 
 -- what an answer reports
-pub data Shown (o : Unfolded) (s z : ℕ) : Type 0 where
-  shown-finished : o ≡ Finished s z → Shown o s z
-  shown-stopped : (k : ℕ) → o ≡ Stopped k s z → Shown o s z
+pub data Shown (o : Result Unfolded Refusal) (s z : ℕ) : Type 0 where
+  shown-finished : o ≡ Ok (Finished s z) → Shown o s z
+  shown-stopped : (k : ℕ) → o ≡ Ok (Stopped k s z) → Shown o s z
 
-pub shown : {o : Unfolded} {s z : ℕ} → Reports o s z → Shown o s z
+pub shown : {o : Result Unfolded Refusal} {s z : ℕ} → Reports o s z → Shown o s z
 shown finished = shown-finished refl
 shown (stopped {number = k}) = shown-stopped k refl
 
-pub not_refused : {s z : ℕ} {A : Type 0} (f : Refusal) → Shown (Refused f) s z → A
-not_refused f (shown-finished e) = let x : ◌≡◌ {A = ℕ} 0 1 = cc in absurd (omega arith)
-not_refused f (shown-stopped k e) = let x : ◌≡◌ {A = ℕ} 0 1 = cc in absurd (omega arith)
+pub not_refused : {s z : ℕ} {A : Type 0} (f : Refusal) → Shown (Err f) s z → A
+not_refused f (shown-finished e) = absurd (cc)
+not_refused f (shown-stopped k e) = absurd (cc)
 
 pub reports_run : (r : Run) → Reports (unfolded r) r.steps (length r.plan)
 reports_run r = go (eqb r.number 0)
   where
     go : (x : Bool)
-        → Reports (cond x (Finished r.steps (length r.plan)) (Stopped r.number r.steps (length r.plan))) r.steps (length r.plan)
+        → Reports (cond x (Ok (Finished r.steps (length r.plan))) (Ok (Stopped r.number r.steps (length r.plan)))) r.steps (length r.plan)
     go true = finished
     go false = stopped
 
@@ -75,39 +75,30 @@ reports_run r = go (eqb r.number 0)
 pub record Told (r : Run) (s z : ℕ) : Type 0 where
   pub steps_told : s ≡ r.steps
   pub size_told : z ≡ length r.plan
-  pub finished_told : (unfolded r ≡ Finished s z) ↔ (r.number ≡ 0)
-  pub stopped_told : (k : ℕ) → unfolded r ≡ Stopped k s z → (r.number ≡ k) × (r.number ≡ 0 → ⊥)
+  pub finished_told : (unfolded r ≡ Ok (Finished s z)) ↔ (r.number ≡ 0)
+  pub stopped_told : (k : ℕ) → unfolded r ≡ Ok (Stopped k s z) → (r.number ≡ k) × (r.number ≡ 0 → ⊥)
 
 pub told : (r : Run) (s z : ℕ) → Shown (unfolded r) s z → Told r s z
 told r s z h = go (eqb r.number 0) refl h
   where
     go : (x : Bool) → eqb r.number 0 ≡ x
-        → Shown (cond x (Finished r.steps (length r.plan)) (Stopped r.number r.steps (length r.plan))) s z → Told r s z
+        → Shown (cond x (Ok (Finished r.steps (length r.plan))) (Ok (Stopped r.number r.steps (length r.plan)))) s z → Told r s z
     go true q (shown-finished e) =
         record {
           steps_told = cc;
           size_told = cc;
           finished_told = (λ i. eqb-true r.number 0 q, λ i. rw q e);
-          stopped_told = λ k i. never_stopped k (rw q at i);
+          stopped_told = λ k i. let never = rw q at i in absurd (cc);
         }
-      where
-        never_stopped : {A : Type 0} (k : ℕ) → Finished r.steps (length r.plan) ≡ Stopped k s z → A
-        never_stopped k i = let x : ◌≡◌ {A = ℕ} 0 1 = cc in absurd (omega arith)
-    go true q (shown-stopped k e) = let x : ◌≡◌ {A = ℕ} 0 1 = cc in absurd (omega arith)
-    go false q (shown-finished e) = let x : ◌≡◌ {A = ℕ} 0 1 = cc in absurd (omega arith)
+    go true q (shown-stopped k e) = absurd (cc)
+    go false q (shown-finished e) = absurd (cc)
     go false q (shown-stopped k e) =
         record {
           steps_told = cc;
           size_told = cc;
-          finished_told = (λ i. absurd (never_finished (rw q at i)), λ i. absurd (eqb-false r.number 0 q i));
-          stopped_told = λ j i. (same_number j (rw q at i), eqb-false r.number 0 q);
+          finished_told = (λ i. let never = rw q at i in absurd (cc), λ i. absurd (eqb-false r.number 0 q i));
+          stopped_told = λ j i. let same = rw q at i in (cc, eqb-false r.number 0 q);
         }
-      where
-        never_finished : Stopped r.number r.steps (length r.plan) ≡ Finished s z → ⊥
-        never_finished i = let x : ◌≡◌ {A = ℕ} 0 1 = cc in omega arith
-
-        same_number : (j : ℕ) → Stopped r.number r.steps (length r.plan) ≡ Stopped j s z → r.number ≡ j
-        same_number j i = cc
 
 -- what an answer reports is read off the areas and the list
 pub reached_told : (r : Run) (s z n k : ℕ) → Told r s z

@@ -1,5 +1,6 @@
 -- A rewriting can be turned round: where it is accepted from one plan to another, its reverse is made of bytes and is accepted back, in areas of
 -- the same lengths.
+use Rattle.std.specs.Prelude.{Ok}
 use Prim.Native.Nat.{ℕ, suc, ◌≤◌}
 use native.Mathlib.Omega.{arith}
 use mathlib.Core.Path.{◌≡◌, refl, ap, sym, ◌∙◌}
@@ -81,7 +82,7 @@ module _ (t : Tables) (ok : Proper t) (c : ℕ) (few : c ≤ most_words) where
       }
 
 -- for every rewriting that is accepted there is one, of bytes, that is accepted the other way
-module _ (t : Tables) (start claimed rewriting a b : List ℕ) (k z : ℕ) (e : (check_outcome t start claimed rewriting a b).answer ≡ Accepted k z) where
+module _ (t : Tables) (start claimed rewriting a b : List ℕ) (k z : ℕ) (e : (check_outcome t start claimed rewriting a b).answer ≡ Ok (Accepted k z)) where
   h : Accepts t start claimed rewriting (capacity a b) k z
   h = accepted-accepts t start claimed rewriting a b k z e
 
@@ -108,7 +109,7 @@ module _ (t : Tables) (start claimed rewriting a b : List ℕ) (k z : ℕ) (e : 
   reversed_bytes = trail_bytes ok few back.leads back.good back.short-end
 
   pub reversed_accepted : (a'' b'' : List ℕ) → length a'' ≡ length a → length b'' ≡ length b
-      → (check_outcome t claimed start (reversed t start rewriting) a'' b'').answer ≡ Accepted k (length start)
+      → (check_outcome t claimed start (reversed t start rewriting) a'' b'').answer ≡ Ok (Accepted k (length start))
   unfolding capacity reversed
   reversed_accepted a'' b'' i j =
       let p = h.passed in

@@ -1,5 +1,5 @@
 -- How many steps a plan needs, and what is claimed of an unfolding for its allowance, for smaller and for larger ones. (Request 109.)
-use Rattle.std.specs.Prelude.{ℕ, ◌-◌, ◌*◌, ◌≤◌, ◌<◌, ◌≡◌, List, ◌++◌, ◌↔◌, length}
+use Rattle.std.specs.Prelude.{ℕ, ◌-◌, ◌*◌, ◌≤◌, ◌<◌, ◌≡◌, List, ◌++◌, ◌↔◌, length, Ok}
 use Rattle.std.proofs.Math.Option.{none}
 use Rattle.areas.specs.Area.{most_words}
 use Rattle.areas.specs.Reached.{capacity}
@@ -64,7 +64,7 @@ pub record FinishesWith (given : UnfoldGiven) (n : ℕ) : Type 0 where
   pub repeated : Repeated given n again
   pub steps : ℕ
   pub size : ℕ
-  pub finishes : again.answer ≡ Finished steps size
+  pub finishes : again.answer ≡ Ok (Finished steps size)
 
 -- one list of bytes is a beginning of another
 abbrev pub Beginning : List ℕ → List ℕ → Type 0
@@ -75,14 +75,14 @@ Beginning xs ys = (rest : List ℕ) × (ys ≡ xs ++ rest)
 pub record AllowanceClaims (given : UnfoldGiven) (needed : ℕ) (end : List ℕ) (left : UnfoldOutcome) : Type 0 where
   -- "Where that number and every plan of the run lie within document 01's limits, and list and areas hold them, that many steps allowed give the
   -- answer finished", with that number of steps; and nothing else does
-  pub finished_exactly : (steps size : ℕ) → (left.answer ≡ Finished steps size)
+  pub finished_exactly : (steps size : ℕ) → (left.answer ≡ Ok (Finished steps size))
       ↔ (AllHeld given needed × (needed ≤ given.allowance) × (steps ≡ needed) × (size ≡ length end))
   -- and then the plan reached is that plan
-  pub finished_there : (steps size : ℕ) → left.answer ≡ Finished steps size → reached_in left steps size ≡ end
+  pub finished_there : (steps size : ℕ) → left.answer ≡ Ok (Finished steps size) → reached_in left steps size ≡ end
   -- fewer steps allowed give 34, after all of them
-  pub fewer_stopped : AllHeld given needed → given.allowance < needed → (size : ℕ) × (left.answer ≡ Stopped 34 given.allowance size)
+  pub fewer_stopped : AllHeld given needed → given.allowance < needed → (size : ℕ) × (left.answer ≡ Ok (Stopped 34 given.allowance size))
   -- "A larger allowance never changes a finished answer": nor the list, nor the areas, byte for byte
-  pub finished_unchanged : (steps size : ℕ) → left.answer ≡ Finished steps size
+  pub finished_unchanged : (steps size : ℕ) → left.answer ≡ Ok (Finished steps size)
       → (n : ℕ) → given.allowance ≤ n → (again : UnfoldOutcome) → Repeated given n again → again ≡ left
   -- for any two allowances, the rewriting under the smaller one is a beginning of the rewriting under the larger one
   pub list_begins : (steps size : ℕ) → Reports left.answer steps size
@@ -94,13 +94,13 @@ pub record AllowanceClaims (given : UnfoldGiven) (needed : ℕ) (end : List ℕ)
       → (steps ≤ needed) × ComesTo given.tables (reached_in left steps size) (needed - steps) end
   -- "When a tray stops on its allowance we don't know whether a larger one would help. Show that it would, as far as the limits reach": under 34
   -- some larger allowance gives finished exactly where the largest allowance, the list and the areas hold what is left of the run
-  pub larger_helps : (steps size : ℕ) → left.answer ≡ Stopped 34 steps size
+  pub larger_helps : (steps size : ℕ) → left.answer ≡ Ok (Stopped 34 steps size)
       → ((n : ℕ) × (given.allowance < n) × (n ≤ most_steps) × FinishesWith given n)
       ↔ ((needed ≤ most_steps) × (3 * needed ≤ length given.list) × AreasHold given (reached_in left steps size))
   -- under 35 the list is too short for the run, and under 36 an area is
-  pub list_too_short : (steps size : ℕ) → left.answer ≡ Stopped 35 steps size → length given.list < 3 * needed
-  pub areas_too_short : (steps size : ℕ) → left.answer ≡ Stopped 36 steps size → AreasHold given given.plan → ⊥
+  pub list_too_short : (steps size : ℕ) → left.answer ≡ Ok (Stopped 35 steps size) → length given.list < 3 * needed
+  pub areas_too_short : (steps size : ℕ) → left.answer ≡ Ok (Stopped 36 steps size) → AreasHold given given.plan → ⊥
   -- so under 35 and 36 no allowance helps, and a larger one changes nothing
-  pub none_helps : (number steps size : ℕ) → left.answer ≡ Stopped number steps size → 34 < number → (n : ℕ) → FinishesWith given n → ⊥
-  pub stopped_unchanged : (number steps size : ℕ) → left.answer ≡ Stopped number steps size → 34 < number
+  pub none_helps : (number steps size : ℕ) → left.answer ≡ Ok (Stopped number steps size) → 34 < number → (n : ℕ) → FinishesWith given n → ⊥
+  pub stopped_unchanged : (number steps size : ℕ) → left.answer ≡ Ok (Stopped number steps size) → 34 < number
       → (n : ℕ) → given.allowance ≤ n → (again : UnfoldOutcome) → Repeated given n again → again ≡ left

@@ -1,5 +1,6 @@
 -- What is claimed of an unfolding and of a check as wholes, and of a single step. (Demands 3 and 2; requests 108 and 109.)
-use Rattle.std.specs.Prelude.{ℕ, ◌*◌, ◌≤◌, ◌<◌, ◌≡◌, true, ◌↔◌, get_or}
+use Rattle.refusals.specs.declared.Refusal.{Refusal}
+use Rattle.std.specs.Prelude.{ℕ, ◌*◌, ◌≤◌, ◌<◌, ◌≡◌, true, ◌↔◌, get_or, Result, Ok}
 use mathlib.Core.List.{List, [], ◌∷◌}
 use Rattle.std.proofs.Math.ListN.{length}
 use Rattle.areas.specs.Area.{padded}
@@ -36,15 +37,15 @@ pub record UnfoldClaims (given : UnfoldGiven) (left : UnfoldOutcome) : Type 0 wh
   pub own_rewriting_accepted : (steps size : ℕ) → Reports left.answer steps size
       → (a b : List ℕ) → length a ≡ length given.a → length b ≡ length given.b
       → (check_outcome given.tables given.plan (reached_in left steps size) (own_rewriting steps left.list) a b).answer
-      ≡ Accepted steps size
+      ≡ Ok (Accepted steps size)
   -- "So the trees of these two plans are alike as well."
   pub reached_alike : (steps size : ℕ) → Reports left.answer steps size
       → AlikePlans given.tables given.plan (reached_in left steps size)
   -- "it says finished exactly when the plan reached is basic"
   pub finished_iff_basic : (steps size : ℕ) → Reports left.answer steps size
-      → (left.answer ≡ Finished steps size) ↔ BasicPlan given.tables (reached_in left steps size)
+      → (left.answer ≡ Ok (Finished steps size)) ↔ BasicPlan given.tables (reached_in left steps size)
   -- "the steps and the ending are those that document 01 gives": else it ends in 34, 35 or 36, each where its condition is the first to hold
-  pub stopped_rightly : (number steps size : ℕ) → left.answer ≡ Stopped number steps size
+  pub stopped_rightly : (number steps size : ℕ) → left.answer ≡ Ok (Stopped number steps size)
       → Stops given.tables given.allowance (length given.list) (capacity given.a given.b) (reached_in left steps size) steps number
   -- Request 109: "For every accepted plan and tables, the run of steps without limits comes after some number of steps to a basic plan."
   pub comes_to_an_end : (p : AcceptedPlan given.tables given.plan)
@@ -121,20 +122,20 @@ pub record Derivation (given : CheckGiven) (steps size : ℕ) : Type 0 where
 -- Of a check, by what was given and what it answered and left:
 pub record CheckClaims (given : CheckGiven) (left : CheckOutcome) : Type 0 where
   -- it accepts exactly the derivations
-  pub accepted_exactly : (steps size : ℕ) → (left.answer ≡ Accepted steps size) ↔ Derivation given steps size
+  pub accepted_exactly : (steps size : ℕ) → (left.answer ≡ Ok (Accepted steps size)) ↔ Derivation given steps size
   -- "if it accepts, the trees of the start plan and of the claimed end plan are alike"; "accepted still means that the trees are alike"
-  pub accepted_alike : (steps size : ℕ) → left.answer ≡ Accepted steps size → AlikePlans given.tables given.start given.claimed
+  pub accepted_alike : (steps size : ℕ) → left.answer ≡ Ok (Accepted steps size) → AlikePlans given.tables given.start given.claimed
   -- "A list of forward steps is answered as before": the whole outcome is the former one
   pub forward_as_before : ForwardList given.rewriting
       → left ≡ former_outcome given.tables given.start given.claimed given.rewriting given.a given.b
   -- a rewriting can be turned round: what is accepted has a reverse that is accepted from the claimed plan to the start plan, with as many steps
   -- and in areas of the same lengths
-  pub reversed_accepted : (steps size : ℕ) → left.answer ≡ Accepted steps size
+  pub reversed_accepted : (steps size : ℕ) → left.answer ≡ Ok (Accepted steps size)
       → (a b : List ℕ) → length a ≡ length given.a → length b ≡ length given.b
       → (check_outcome given.tables given.claimed given.start (reversed given.tables given.start given.rewriting) a b).answer
-      ≡ Accepted steps (length given.start)
+      ≡ Ok (Accepted steps (length given.start))
   -- and that reverse is a list of bytes
-  pub reversed_bytes : (steps size : ℕ) → left.answer ≡ Accepted steps size
+  pub reversed_bytes : (steps size : ℕ) → left.answer ≡ Ok (Accepted steps size)
       → (i : ℕ) → get_or (reversed given.tables given.start given.rewriting) i 0 < 256
 
 -- "For every law, place and accepted plan that the areas can hold"; "A single step is a rewriting of one record, with any accepted plan claimed"
@@ -146,15 +147,15 @@ pub record SingleStep (given : CheckGiven) (r : Recorded) : Type 0 where
   pub one_record : given.rewriting ≡ bytes_of_one r
 
 -- the answer to one step made, to plan w: accepted where that is the plan claimed, else "33 all steps replayed, end differs from the claimed"
-pub data Makes (w claimed : List ℕ) : Checked → Type 0 where
-  as_claimed : w ≡ claimed → Makes w claimed (Accepted 1 (length w))
-  differs : (w ≡ claimed → ⊥) → Makes w claimed (TurnedBack 33 1 (length w))
+pub data Makes (w claimed : List ℕ) : Result Checked Refusal → Type 0 where
+  as_claimed : w ≡ claimed → Makes w claimed (Ok (Accepted 1 (length w)))
+  differs : (w ≡ claimed → ⊥) → Makes w claimed (Ok (TurnedBack 33 1 (length w)))
 
 -- what is left where no step is made: the start plan in A, zeros in B
 abbrev pub unmade : CheckGiven → ℕ → CheckOutcome
 unmade given number =
     record {
-      answer = TurnedBack number 0 (length given.start);
+      answer = Ok (TurnedBack number 0 (length given.start));
       a = padded given.start (length given.a);
       b = padded [] (length given.b);
     }

@@ -1,6 +1,7 @@
 -- What an unfolding is given, what its answer reports, and why it stops. (01, "Unfolding" and "Turned back by how far it had come".)
+use Rattle.refusals.specs.declared.Refusal.{Refusal}
 use Prim.Native.Nat.{ℕ, ◌+◌, ◌*◌, ◌≤◌, ◌<◌}
-use Rattle.std.specs.Prelude.{◌≡◌, length, take}
+use Rattle.std.specs.Prelude.{◌≡◌, length, take, Result, Ok}
 use mathlib.Core.List.{List}
 use Rattle.std.proofs.Math.Option.{some}
 use Rattle.areas.specs.Reached.{even?, reached_part}
@@ -23,9 +24,9 @@ abbrev pub unfold_given : Tables → List ℕ → ℕ → List ℕ → List ℕ 
 unfold_given t plan m list a b = record { tables = t; plan = plan; allowance = m; list = list; a = a; b = b }
 
 -- an answer that reports so many steps made and so many words reached: finished, or ended in 34, 35 or 36
-pub data Reports : Unfolded → ℕ → ℕ → Type 0 where
-  finished : {steps size : ℕ} → Reports (Finished steps size) steps size
-  stopped : {number steps size : ℕ} → Reports (Stopped number steps size) steps size
+pub data Reports : Result Unfolded Refusal → ℕ → ℕ → Type 0 where
+  finished : {steps size : ℕ} → Reports (Ok (Finished steps size)) steps size
+  stopped : {number steps size : ℕ} → Reports (Ok (Stopped number steps size)) steps size
 
 -- "The unfolding's own rewriting is the first 3 × S bytes of its list, S being the steps made in its answer"
 unfoldable pub own_rewriting : ℕ → List ℕ → List ℕ

@@ -1,4 +1,5 @@
 -- What is claimed of the fixed form holds of the outcome.
+use Rattle.std.specs.Prelude.{Result, Ok, Err}
 use Prim.Native.Nat.{ℕ, ◌-◌, ◌≤◌}
 use native.Mathlib.Omega.{arith}
 use mathlib.Core.Path.{◌≡◌, refl, sym, ap, ◌∙◌, subst}
@@ -29,20 +30,18 @@ use Rattle.forms.proofs.Kept.{form-tree}
 use Rattle.forms.proofs.Same.{equal_forms_iff_alike}
 use Rattle.forms.proofs.InForm.{form-in_form, in_form_same}
 use Rattle.forms.proofs.Claims.{within_31, equal_forms_iff_alike_trees}
-use Rattle.fixing.specs.declared.FormFixed.{FormFixed}
-use Rattle.fixing.specs.declared.FormFixed.TheVariants.{Fixed, Refused}
 use Rattle.fixing.specs.Outcome.{fixed_form, form_refusal, FormOutcome, fixed_unless, form_outcome, fixed_report, form_reported}
 use Rattle.fixing.specs.Claims.{AlikeTrees, NotFixed, by_plan, not_basic, short_area, FormClaims}
 use Rattle.fixing.proofs.Outcomes.{basic-refused-plan, basic-refused, basic-accepted, refused-not_basic, form-refused-basic, form-refused-short, form_none, form-accepted, not_fixed, is_fixed, form_numbers, few_of, reads_as, form-spelled, form-within, form_is_basic, form-fixed, form-term}
 
 -- the answers are told apart
-never_fixed : {P : Type 0} {r : Refusal} {k : ℕ} → ◌≡◌ {A = FormFixed} (Refused r) (Fixed k) → P
+never_fixed : {P : Type 0} {r : Refusal} {k : ℕ} → ◌≡◌ {A = Result ℕ Refusal} (Err r) (Ok k) → P
 never_fixed e = let q : ◌≡◌ {A = ℕ} 0 1 = cc in absurd (omega arith)
 
-same_size : {j k : ℕ} → ◌≡◌ {A = FormFixed} (Fixed j) (Fixed k) → j ≡ k
+same_size : {j k : ℕ} → ◌≡◌ {A = Result ℕ Refusal} (Ok j) (Ok k) → j ≡ k
 same_size e = cc
 
-same_refusal : {q r : Refusal} → ◌≡◌ {A = FormFixed} (Refused q) (Refused r) → q ≡ r
+same_refusal : {q r : Refusal} → ◌≡◌ {A = Result ℕ Refusal} (Err q) (Err r) → q ≡ r
 same_refusal e = cc
 
 -- why a form is not written
@@ -79,29 +78,29 @@ module _ (t ws a : List ℕ) where
   abbrev outcome : FormOutcome
   outcome = form_outcome t ws a
 
-  answer-refused : (r : Refusal) → outcome.answer ≡ Refused r → form_refusal t ws (length a) ≡ some r
+  answer-refused : (r : Refusal) → outcome.answer ≡ Err r → form_refusal t ws (length a) ≡ some r
   unfolding form_outcome
   answer-refused r e = go (form_refusal t ws (length a)) e
     where
-      go : (o : Option Refusal) → (fixed_unless o (fixed_form t ws) a).answer ≡ Refused r → o ≡ some r
+      go : (o : Option Refusal) → (fixed_unless o (fixed_form t ws) a).answer ≡ Err r → o ≡ some r
       go none q = never_fixed (sym q)
       go (some x) q = ap some (same_refusal q)
 
-  refused-answer : (r : Refusal) → form_refusal t ws (length a) ≡ some r → outcome.answer ≡ Refused r
+  refused-answer : (r : Refusal) → form_refusal t ws (length a) ≡ some r → outcome.answer ≡ Err r
   refused-answer r e = sym (ap (λ (o : FormOutcome). o.answer) (not_fixed t ws a e))
 
-  refused-area : (r : Refusal) → outcome.answer ≡ Refused r → outcome.area ≡ a
+  refused-area : (r : Refusal) → outcome.answer ≡ Err r → outcome.area ≡ a
   refused-area r e = sym (ap (λ (o : FormOutcome). o.area) (not_fixed t ws a (answer-refused r e)))
 
-  fixed_answer : form_refusal t ws (length a) ≡ none → outcome.answer ≡ Fixed (length (fixed_form t ws))
+  fixed_answer : form_refusal t ws (length a) ≡ none → outcome.answer ≡ Ok (length (fixed_form t ws))
   fixed_answer e = sym (ap (λ (o : FormOutcome). o.answer) (is_fixed t ws a e))
 
-  module _ (n : ℕ) (e : outcome.answer ≡ Fixed n) where
+  module _ (n : ℕ) (e : outcome.answer ≡ Ok n) where
     answer-fixed : form_refusal t ws (length a) ≡ none
     unfolding form_outcome
     answer-fixed = go (form_refusal t ws (length a)) e
       where
-        go : (o : Option Refusal) → (fixed_unless o (fixed_form t ws) a).answer ≡ Fixed n → o ≡ none
+        go : (o : Option Refusal) → (fixed_unless o (fixed_form t ws) a).answer ≡ Ok n → o ≡ none
         go none q = refl
         go (some r) q = never_fixed q
 

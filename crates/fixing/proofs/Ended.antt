@@ -13,8 +13,9 @@ use Rattle.areas.proofs.Area.{padded-whole}
 use Rattle.forms.specs.Gathering.{join, sorted, gather, spell_top, form_by_sorting}
 use Rattle.chains.specs.Chain.{word_at, walk, chain, linked}
 use Rattle.chains.proofs.Paths.{walk_front}
-use Rattle.fixing.specs.Gathered.{span, parts, Gathered, kept, Closed}
+use Rattle.fixing.specs.Gathered.{span, parts, Gathered, kept, Closed, Gatherable}
 use Rattle.fixing.proofs.Closing.{Shut, shut}
+use Rattle.fixing.proofs.Steps.{parts_low}
 
 -- at the end the one part that is left, closed, is the form
 module _ {ws : List ℕ} {links sizes ends entries starts : List ℕ} {c d : ℕ} (few : length ws ≤ most_words) (g : Gathered ws (length ws) links sizes ends entries starts c (suc d))
@@ -80,6 +81,19 @@ module _ {ws : List ℕ} {links sizes ends entries starts : List ℕ} {c n : ℕ
 
     pub end-walked : walk ws links' (size - 1) (get_or part' 0 0) ≡ form_by_sorting ws
     end-walked = form_walked few on_one links' part' size closed
+
+-- the part that is left of a plan whose form is gathered: where it begins and ends
+pub record LastPart (starts : List ℕ) (c n : ℕ) : Type 0 where
+  pub some : 1 ≤ n
+  pub few : n ≤ most_words
+  pub below : get_or starts (n - 1) 0 < c
+  pub within : c ≤ most_words
+
+pub last_part : {ws links sizes ends entries starts : List ℕ} {c n : ℕ} → Gatherable ws
+    → Gathered ws (length ws) links sizes ends entries starts c n → LastPart starts c n
+last_part r g =
+    let one = some_part _ _ _ _ _ _ _ _ g r.some_words in
+    record { some = one; few = omega (arith, parts_low g, r.few); below = end_below r.few g one; within = omega (arith, g.few, r.few) }
 
 -- the form put into an area that is long enough, and zeros behind it
 pub put_whole : (a a₁ a₂ w : List ℕ) (k : ℕ) → k ≡ length w → k ≤ length a → a₁ ≡ overwrite a 0 w → length a₁ ≡ length a → a₂ ≡ padded (take k a₁) (length a₁) → a₂ ≡ cond (ltb (length a) k) a (padded w (length a))

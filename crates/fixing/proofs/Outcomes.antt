@@ -1,4 +1,5 @@
 -- What bringing a plan to its fixed form comes to, by what judging finds; and what a basic plan's form is, as the code gathers it.
+use Rattle.std.specs.Prelude.{Ok, Err}
 use Prim.Native.Nat.{ℕ, ◌≤◌, ◌<◌}
 use native.Mathlib.Omega.{arith}
 use mathlib.Core.Path.{◌≡◌, refl, sym, ap, ◌∙◌}
@@ -11,8 +12,8 @@ use lib.Dec.{ltb}
 use borrow.Author.Tests.{lt-ltb, le-ltb, ltb-false}
 use Rattle.refusals.specs.declared.Place.TheVariants.{Nowhere}
 use Rattle.refusals.specs.declared.Refusal.{Refusal}
-use Rattle.refusals.specs.Refusal.{refuse, refuse_if, reported}
-use Rattle.refusals.proofs.Judging.{none_of_both, not_met}
+use Rattle.refusals.specs.Refusal.{refuse, refuse_if, judged, reported}
+use Rattle.refusals.proofs.Judging.{accepted_none, refused_some, none_of_both, not_met}
 use Rattle.areas.specs.Area.{padded}
 use Rattle.tables.specs.Tables.{Tables, actions}
 use Rattle.plans.specs.Term.{Term, words, term_of}
@@ -25,7 +26,6 @@ use Rattle.forms.specs.Form.{form}
 use Rattle.forms.specs.Gathering.{form_by_sorting}
 use Rattle.forms.proofs.Kept.{form-over, form-basic}
 use Rattle.forms.proofs.Claims.{form_of-read, form-no_longer, form-some_words, form-read, form_of-form, form_computed_by_sorting}
-use Rattle.fixing.specs.declared.FormFixed.TheVariants.{Fixed, Refused}
 use Rattle.fixing.specs.Outcome.{basic_refusal, fixed_form, form_refusal, FormOutcome, fixed_unless, form_outcome, fixed_report, form_reported}
 use Rattle.fixing.specs.Gathered.{Gatherable}
 
@@ -59,6 +59,17 @@ module _ (t : Tables) (ws : List ℕ) where
   -- nothing is refused exactly where the plan is basic
   pub basic-accepted : (basic_refusal t ws ≡ none) ↔ BasicPlan t ws
   basic-accepted = (λ e. (basic_plan t ws).0 (none_basic e), λ b. let k = (basic_plan t ws).1 b in basic_none k.0 k.1)
+
+  -- the answer, by what judging the plan answers and by whether its words are basic
+  pub judged-plan : {r : Refusal} → Err r ≡ judged (plan_refusal t ws) → Err r ≡ judged (basic_refusal t ws)
+  judged-plan e = ap judged (sym (basic-refused-plan (refused_some _ _ (sym e))))
+
+  pub judged-basic : Ok tt ≡ judged (plan_refusal t ws) → true ≡ basic_words? (actions t) ws → Ok tt ≡ judged (basic_refusal t ws)
+  judged-basic e d = ap judged (sym (basic_none (accepted_none _ (sym e)) (sym d)))
+
+  pub judged-not_basic : Ok tt ≡ judged (plan_refusal t ws) → false ≡ basic_words? (actions t) ws
+      → Err (record { number = 70; place = Nowhere }) ≡ judged (basic_refusal t ws)
+  judged-not_basic e d = ap judged (sym (basic-refused (accepted_none _ (sym e)) (sym d)))
 
   -- 70, said without the test
   pub refused-not_basic : AcceptedPlan t ws → (BasicPlan t ws → ⊥) → basic_refusal t ws ≡ refuse 70 Nowhere
@@ -98,13 +109,13 @@ module _ (t : Tables) (ws : List ℕ) (n : ℕ) where
 -- the outcome
 module _ (t ws a : List ℕ) where
   -- a refusal leaves the area
-  pub not_fixed : {r : Refusal} → form_refusal t ws (length a) ≡ some r → ◌≡◌ {A = FormOutcome} (record { answer = Refused r; area = a }) (form_outcome t ws a)
+  pub not_fixed : {r : Refusal} → form_refusal t ws (length a) ≡ some r → ◌≡◌ {A = FormOutcome} (record { answer = Err r; area = a }) (form_outcome t ws a)
   unfolding form_outcome
   not_fixed e = rw e
 
   -- else the form is written, zeros behind
   pub is_fixed : form_refusal t ws (length a) ≡ none
-      → ◌≡◌ {A = FormOutcome} (record { answer = Fixed (length (fixed_form t ws)); area = padded (fixed_form t ws) (length a) }) (form_outcome t ws a)
+      → ◌≡◌ {A = FormOutcome} (record { answer = Ok (length (fixed_form t ws)); area = padded (fixed_form t ws) (length a) }) (form_outcome t ws a)
   unfolding form_outcome
   is_fixed e = rw e
 
@@ -172,12 +183,12 @@ module _ (t ws a a' : List ℕ) (k : ℕ) (e : basic_refusal t ws ≡ none) (q :
   gathered : form_by_sorting ws ≡ fixed_form t ws
   gathered = form_gathered ((basic-accepted t ws).0 e)
 
-  pub put-short : length a < k → ◌≡◌ {A = FormOutcome} (record { answer = Refused (record { number = 74; place = Nowhere }); area = a' }) (form_outcome t ws a)
+  pub put-short : length a < k → ◌≡◌ {A = FormOutcome} (record { answer = Err (record { number = 74; place = Nowhere }); area = a' }) (form_outcome t ws a)
   put-short h =
       let b : a' ≡ a = p ∙ rw (lt-ltb (length a) k h) refl in
       rw b (not_fixed t ws a (form-refused-short t ws (length a) e (omega (arith, q, ap length gathered))))
 
-  pub put-long : k ≤ length a → ◌≡◌ {A = FormOutcome} (record { answer = Fixed k; area = a' }) (form_outcome t ws a)
+  pub put-long : k ≤ length a → ◌≡◌ {A = FormOutcome} (record { answer = Ok k; area = a' }) (form_outcome t ws a)
   put-long h =
       let b : a' ≡ padded (fixed_form t ws) (length a) = p ∙ rw (le-ltb (length a) k h, gathered) refl in
       let s : k ≡ length (fixed_form t ws) = q ∙ ap length gathered in

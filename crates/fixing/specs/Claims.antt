@@ -1,5 +1,5 @@
 -- What is claimed of the call, and of the fixed forms of plans. (Request 107.)
-use Rattle.std.specs.Prelude.{ℕ, ◌≤◌, ◌<◌, ◌≡◌, List, ◌↔◌, length, get_or, take}
+use Rattle.std.specs.Prelude.{ℕ, ◌≤◌, ◌<◌, ◌≡◌, List, ◌↔◌, length, get_or, take, Ok, Err}
 use Rattle.std.proofs.Math.Option.{some}
 use Rattle.refusals.specs.declared.Place.TheVariants.{Nowhere}
 use Rattle.refusals.specs.declared.Refusal.{Refusal}
@@ -9,7 +9,6 @@ use Rattle.plans.specs.Accepted.{AcceptedPlan, BasicPlan}
 use Rattle.trees.specs.Tree.{Alike}
 use Rattle.trees.specs.Meaning.{tree}
 use Rattle.forms.specs.InForm.{InForm}
-use Rattle.fixing.specs.declared.FormFixed.TheVariants.{Fixed, Refused}
 use Rattle.fixing.specs.Outcome.{fixed_form, FormOutcome}
 
 -- The trees of two basic plans are alike, each with its own tables.
@@ -28,15 +27,15 @@ pub data NotFixed (t : Tables) (ws : List ℕ) (area : ℕ) : Refusal → Type 0
 -- Of the tables t, the plan ws, the area a before, and the outcome o.
 pub record FormClaims (t : Tables) (ws a : List ℕ) (o : FormOutcome) : Type 0 where
   -- a form is written exactly where the plan is basic and the area is not shorter than the form
-  pub fixed_exactly : ((n : ℕ) × (o.answer ≡ Fixed n)) ↔ (BasicPlan t ws × (length (fixed_form t ws) ≤ length a))
+  pub fixed_exactly : ((n : ℕ) × (o.answer ≡ Ok n)) ↔ (BasicPlan t ws × (length (fixed_form t ws) ≤ length a))
   -- else it is refused, for one of these three reasons
-  pub refused_exactly : (r : Refusal) → (o.answer ≡ Refused r) ↔ NotFixed t ws (length a) r
+  pub refused_exactly : (r : Refusal) → (o.answer ≡ Err r) ↔ NotFixed t ws (length a) r
   -- "keeps its bytes", as under every refusal
-  pub kept : (r : Refusal) → o.answer ≡ Refused r → o.area ≡ a
+  pub kept : (r : Refusal) → o.answer ≡ Err r → o.area ≡ a
   -- the form stands in front, and is as long as answered; "a longer one is zero past the form"
-  pub form : (n : ℕ) → o.answer ≡ Fixed n → take n o.area ≡ fixed_form t ws
-  pub size : (n : ℕ) → o.answer ≡ Fixed n → n ≡ length (fixed_form t ws)
-  pub zeros : (n : ℕ) → o.answer ≡ Fixed n → (j : ℕ) → n ≤ j → get_or o.area j 0 ≡ 0
+  pub form : (n : ℕ) → o.answer ≡ Ok n → take n o.area ≡ fixed_form t ws
+  pub size : (n : ℕ) → o.answer ≡ Ok n → n ≡ length (fixed_form t ws)
+  pub zeros : (n : ℕ) → o.answer ≡ Ok n → (j : ℕ) → n ≤ j → get_or o.area j 0 ≡ 0
   -- the form of a basic plan is never longer than the plan, so an area as long as the plan is enough
   pub no_longer : BasicPlan t ws → length (fixed_form t ws) ≤ length ws
   -- it is a basic plan itself, in the fixed form, and its tree is alike to the plan's

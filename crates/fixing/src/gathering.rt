@@ -4,9 +4,9 @@ ghost use Rattle.areas.specs.Area.{most_words};
 ghost use Rattle.chains.specs.Chain.{Arrays};
 ghost use Rattle.fixing.specs.Gathered.{Gathered, Closed, Behind};
 
-// The words of choice, +, and of sequence, ·.
-const CHOICE: u8 = 64;
+use chains::CHOICE;
 
+// The word of sequence, ·.
 const SEQUENCE: u8 = 65;
 
 // How many summands stand on the stack, and in how many parts.
@@ -31,8 +31,9 @@ pub fn close(
     ensures { Closed words.now links.old sizes.now ends.now part.old at
         links.new part.new result }
 {
-    chains::sort(words, &*links, sizes, part, buffer);
-    let count = chains::keep_once(words, &*links, sizes, part);
+    let before = |p: u16, q: u16| chains::comes_before(words, &*links, sizes, p, q);
+    chains::sort(before, part, buffer);
+    let count = chains::keep_once(before, part);
     let kept = &part[..count];
     chains::link(links, ends, kept, at);
     chains::total_size(sizes, kept)
@@ -146,22 +147,17 @@ fn take_word(
     ensures { Gathered plan.now (i + 1) links.new sizes.new ends.new entries.new starts.new
         result.entries result.parts }
 {
-    let word = plan[i];
-    if word == SEQUENCE {
-        return take_product(
+    match plan[i] {
+        SEQUENCE => take_product(
             plan, i, links, sizes, ends, entries, &*starts, buffer, stack,
-        );
-    }
-    if word == CHOICE {
-        if stack.parts < 2 {
-            return stack;
-        }
-        return Stack {
+        ),
+        CHOICE if stack.parts < 2 => stack,
+        CHOICE => Stack {
             entries: stack.entries,
             parts: stack.parts - 1,
-        };
+        },
+        _ => take_action(i, sizes, ends, entries, starts, stack),
     }
-    take_action(i, sizes, ends, entries, starts, stack)
 }
 
 // Gathers the summands of a whole plan.
@@ -183,10 +179,8 @@ pub fn gather(
         entries: 0,
         parts: 0,
     };
-    let mut i: usize = 0;
-    while i < plan.len() {
+    for i in 0..plan.len() {
         stack = take_word(plan, i, links, sizes, ends, entries, starts, buffer, stack);
-        i += 1;
     }
     stack
 }

@@ -9,35 +9,19 @@ ghost use Rattle.fixing.specs.Outcome.{basic_refusal, FormOutcome, form_outcome}
 ghost use Rattle.fixing.specs.Gathered.{Gatherable};
 
 use areas::MOST_WORDS;
-use refusals::{Judgement, Place, Refusal};
+use refusals::{Reason, Refusal};
 
 mod gathering;
 
-// "A plan that isn't basic".
-const NOT_BASIC: u8 = 70;
-
-// "an area shorter than the form".
-const SHORT_AREA: u8 = 74;
-
-// The form written, with its length; or the refusal.
-#[derive(Clone, Copy)]
-pub enum FormFixed {
-    Fixed { size: usize },
-    Refused(Refusal),
-}
-
 // Judges the tables and the plan, then whether the plan is basic.
-fn judge_basic(tables: &[u8], plan: &[u8]) -> Judgement
+fn judge_basic(tables: &[u8], plan: &[u8]) -> Result<(), Refusal>
     ensures { result ≡ judged (basic_refusal tables.now plan.now) }
 {
-    let judgement = plans::judge_plan(tables, plan);
-    if let Judgement::Refused(_) = judgement {
-        return judgement;
-    }
+    plans::judge_plan(tables, plan)?;
     if plans::basic_words(tables::actions_of(tables), plan) {
-        Judgement::Accepted
+        Ok(())
     } else {
-        refusals::refused(NOT_BASIC)
+        Err(Refusal::from(Reason::NotBasic))
     }
 }
 
@@ -63,16 +47,14 @@ fn put_form(plan: &[u8], area: &mut [u8]) -> usize
         &mut starts,
         &mut buffer,
     );
-    let count = stack.entries;
-    let parts = stack.parts;
-    let start = starts[parts - 1] as usize;
+    let start = starts[stack.parts - 1] as usize;
     let total = gathering::close(
         plan,
         &mut links,
         &sizes,
         &ends,
-        &mut entries[start..count],
-        &mut buffer[start..count],
+        &mut entries[start..stack.entries],
+        &mut buffer[start..stack.entries],
         plan.len() as u16,
     );
     let size = total - 1;
@@ -85,22 +67,14 @@ fn put_form(plan: &[u8], area: &mut [u8]) -> usize
 
 // Brings a basic plan to its fixed form, which is put into an area, zeros after: the form's length. Refusals 1 to 8, 11 to 14, then 70 for a plan that
 // is not basic, then 74 for an area shorter than the form, leave the area as it is.
-pub fn fix_form(tables: &[u8], plan: &[u8], area: &mut [u8]) -> FormFixed
+pub fn fix_form(tables: &[u8], plan: &[u8], area: &mut [u8]) -> Result<usize, Refusal>
     ensures whole { ◌≡◌ {A = FormOutcome} (record { answer = result; area = area.new })
         (form_outcome tables.now plan.now area.old) }
 {
-    match judge_basic(tables, plan) {
-        Judgement::Refused(refusal) => {
-            return FormFixed::Refused(refusal);
-        }
-        Judgement::Accepted => {}
-    }
+    judge_basic(tables, plan)?;
     let size = put_form(plan, area);
     if area.len() < size {
-        return FormFixed::Refused(Refusal {
-            number: SHORT_AREA,
-            place: Place::Nowhere,
-        });
+        return Err(Refusal::from(Reason::ShortArea));
     }
-    FormFixed::Fixed { size }
+    Ok(size)
 }

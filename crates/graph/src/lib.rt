@@ -14,6 +14,7 @@ pub const FIRST_NODE: u16 = 256;
 pub const MOST_NODES: usize = 32768;
 
 // How many words an entry is written as.
+#[tactic(auto, unfolding(crate::specs::Graph::entry_size))]
 pub fn size_of(sizes: &[u16], v: u16) -> usize
     requires { 256 ≤ v → v < length sizes.now }
     ensures { (result ≡ entry_size sizes.now v) × (result < 65536) }
@@ -29,10 +30,8 @@ pub fn load_words(src: &[u8], dst: &mut [u16], at: usize)
     requires { at + length src.now ≤ length dst.old }
     ensures { dst.new ≡ overwrite dst.old at src.now }
 {
-    let mut i: usize = 0;
-    while i < src.len() {
-        dst[at + i] = src[i] as u16;
-        i += 1;
+    for (i, &word) in src.iter().enumerate() {
+        dst[at + i] = u16::from(word);
     }
 }
 
@@ -42,14 +41,10 @@ pub fn push_rest(todo: &[u16], rest: usize, stack: &mut [u16], height: usize) ->
     ensures { (result ≡ height + (length todo.now - rest))
         × (stacked stack.new result ≡ onto (drop rest todo.now) (stacked stack.old height)) }
 {
-    let mut h: usize = height;
-    let mut i: usize = rest;
-    while i < todo.len() {
-        stack[h] = todo[i];
-        h += 1;
-        i += 1;
-    }
-    h
+    let left = &todo[rest..];
+    let end = height + left.len();
+    stack[height..end].copy_from_slice(left);
+    end
 }
 
 // Writes the first entries of a stack, from the last word to the first, so that the last word stands before place `end`; where the first word
@@ -67,6 +62,7 @@ pub fn write_back(
     ensures { WroteBack (graph own.now first.now second.now)
         stack.old height dst.old dst.new end result }
 {
+    // A stack is an array with its height beside, since nothing here is on a heap.
     let mut h: usize = height;
     let mut e: usize = end;
     while 0 < h {

@@ -1,7 +1,8 @@
 -- What `advance` asks of the functions that it calls, and what it answers, by what the next entry is.
+use Rattle.std.specs.Prelude.{Some, None, Option as Maybe}
 use Prim.Native.Nat.{ℕ, ◌+◌, ◌-◌, ◌≤◌, ◌<◌}
 use native.Mathlib.Omega.{arith}
-use mathlib.Core.Path.{◌≡◌, refl, sym, ◌∙◌, ap}
+use mathlib.Core.Path.{◌≡◌, refl, ◌∙◌, ap}
 use mathlib.Core.List.{List, ◌∷◌, ◌++◌}
 use mathlib.Core.Option.{Option, none, some}
 use lib.ListN.{length, get_or, set}
@@ -12,14 +13,15 @@ use Rattle.tables.specs.Lawful.{Lawful}
 use Rattle.plans.specs.Term.{Term, words}
 use Rattle.plans.specs.Stack.{spell}
 use Rattle.rewritings.specs.Roots.{first_law}
-use Rattle.redexes.specs.declared.Put.{Put}
-use Rattle.redexes.specs.declared.Put.TheVariants.{At, Long}
-use Rattle.redexes.specs.Slots.{RootTerm, ChosenAt, none_at, chosen_at, ChosenRoot, side_entries, entries_size, PutReady, PutBefore, put_at, too_long}
+use Rattle.redexes.specs.declared.Placed.{Placed}
+use Rattle.redexes.specs.declared.Redex.{Redex as Fitting}
+use Rattle.redexes.specs.Slots.{RootTerm, ChosenAt, none_at, chosen_at, ChosenRoot, slots_of, side_entries, entries_size, PutReady, PutBefore, put_at, too_long}
 use Rattle.redexes.proofs.Entries.{side-reach}
 use Rattle.graph.specs.Graph.{Graph, Nodes, Holds, Root, root_one, root_two, ToRead}
 use Rattle.graph.proofs.Reading.{holds-inside}
 use Rattle.graphsteps.specs.declared.Reading.{Reading}
 use Rattle.graphsteps.specs.declared.Operands.{Operands}
+use Rattle.graphsteps.specs.declared.Stop.TheVariants.{AllowanceSpent, ListFull, TooLong}
 use Rattle.graphsteps.specs.declared.NextEntry.TheVariants.{Read, Step, Stopped}
 use Rattle.graphsteps.specs.Holding.{Arrays, arrays, in_use, Fits, Holding, SomePlan, Signed, TakenFor, SizesOf, size_under, after_term, after_sign, with_step, not_made, AdvancedOn}
 use Rattle.graphsteps.proofs.Entries.{SignAt, sign_at, sign_word, node-term, action-term}
@@ -29,16 +31,16 @@ use Rattle.graphsteps.proofs.Signs.{sign_read, old_small, height-under}
 use Rattle.graphsteps.proofs.Steps.{not_allowed, no_room, over-long, side-room, step-made}
 use Rattle.laws.specs.Laws.{highest_law, first_choice, choices}
 
--- the law chosen at a root, by whether it is 0
-module _ {t : Tables} {n : ℕ} {g : Graph} {slots : List ℕ} where
-  none_first : {o : Option (ℕ × Term)} {k : ℕ} → ChosenAt t n g slots o k → k ≡ 0 → o ≡ none
+-- the law chosen at a root, by whether there is one
+module _ {t : Tables} {n : ℕ} {g : Graph} where
+  none_first : {o : Option (ℕ × Term)} {k : Maybe Fitting} → ChosenAt t n g o k → k ≡ None → o ≡ none
   none_first none_at e = refl
-  none_first (chosen_at k v low high r) e = absurd (omega arith)
+  none_first (chosen_at d v low high r) e = let z : ◌≡◌ {A = ℕ} 0 1 = cc in absurd (omega arith)
 
-  one-first : {o : Option (ℕ × Term)} {k : ℕ} → ChosenAt t n g slots o k → (k ≡ 0 → ⊥)
-      → (v : Term) × (o ≡ some (k, v)) × (first_choice ≤ k) × (k ≤ highest_law) × ToRead n g (side_entries t k slots) (words v)
-  one-first none_at e = absurd (e refl)
-  one-first (chosen_at k v low high r) e = (v, refl, low, high, r)
+  one-first : {o : Option (ℕ × Term)} {k : Maybe Fitting} → ChosenAt t n g o k → (d : Fitting) → k ≡ Some d
+      → (v : Term) × (o ≡ some (d.law, v)) × (first_choice ≤ d.law) × (d.law ≤ highest_law) × ToRead n g (side_entries t d.law (slots_of d)) (words v)
+  one-first none_at d e = let z : ◌≡◌ {A = ℕ} 0 1 = cc in absurd (omega arith)
+  one-first (chosen_at f v low high r) d e = let q : d ≡ f = cc in rw q (v, refl, low, high, r)
 
 module _ (t : Tables) (ok : Lawful t) (c : ℕ) (most : c ≤ most_words) (allowed room : ℕ) (own first second sizes stack todo : List ℕ) (p : Reading)
     (fits : Fits (arrays own first second sizes stack todo) p) (more : p.rest < most_words) where
@@ -122,9 +124,9 @@ module _ (t : Tables) (ok : Lawful t) (c : ℕ) (most : c ≤ most_words) (allow
           (a.0, a.1, omega (arith, h.size_is, h.short), height-under t ok c most m p fits more s.some_plan h high r x)
 
       -- by the law chosen
-      module _ (slots : List ℕ) (law : ℕ)
-          (chosen : ChosenRoot t (actions t) (in_use (arrays own first second sizes stack todo) p.count) (get_or todo p.rest 0) r.a r.b slots law) where
-        pub on-sign : law ≡ 0 → p.count < length own → (old : ℕ) → old ≡ size_under sizes (get_or todo p.rest 0) r → {own' first' second' sizes' stack' : List ℕ} {q : Reading}
+      module _ (o : Maybe Fitting)
+          (chosen : ChosenRoot t (actions t) (in_use (arrays own first second sizes stack todo) p.count) (get_or todo p.rest 0) r.a r.b o) where
+        pub on-sign : o ≡ None → p.count < length own → (old : ℕ) → old ≡ size_under sizes (get_or todo p.rest 0) r → {own' first' second' sizes' stack' : List ℕ} {q : Reading}
             → q ≡ after_sign p r → own' ≡ set own p.count (get_or todo p.rest 0) → first' ≡ set first p.count r.a
             → second' ≡ set second p.count r.b → sizes' ≡ set sizes p.count old → stack' ≡ set stack r.under p.count
             → AdvancedOn t c allowed room (arrays own first second sizes stack todo) (arrays own' first' second' sizes' stack' todo) p (Read q)
@@ -132,98 +134,98 @@ module _ (t : Tables) (ok : Lawful t) (c : ℕ) (most : c ≤ most_words) (allow
             rw (q, a, b, d, f, k, i)
             (record { advanced = λ w h. let x = there w h in sign_read t ok c most m p fits more w h high r x l (none_first (chosen.chosen_root x.term x.root) e) allowed room })
 
-        -- the law chosen, other than 0, and the entries of its right side
-        chosen_here : (law ≡ 0 → ⊥) → (w : List ℕ) (h : Holding t c (arrays own first second sizes stack todo) p w) → let x = there w h in
-            (v : Term) × (first_law t first_choice choices x.term ≡ some (law, v)) × (first_choice ≤ law) × (law ≤ highest_law)
-            × ToRead (actions t) (in_use (arrays own first second sizes stack todo) p.count) (side_entries t law slots) (words v)
-        chosen_here e w h = let x = there w h in one-first (chosen.chosen_root x.term x.root) e
+        -- a law was chosen
+        module _ (chose : Fitting) (is : o ≡ Some chose) where
+          -- the law chosen, and the entries of its right side
+          chosen_here : (w : List ℕ) (h : Holding t c (arrays own first second sizes stack todo) p w) → let x = there w h in
+              (v : Term) × (first_law t first_choice choices x.term ≡ some (chose.law, v)) × (first_choice ≤ chose.law) × (chose.law ≤ highest_law)
+              × ToRead (actions t) (in_use (arrays own first second sizes stack todo) p.count) (side_entries t chose.law (slots_of chose)) (words v)
+          chosen_here w h = let x = there w h in one-first (chosen.chosen_root x.term x.root) chose is
 
-        pub law_bounds : SomePlan t c (arrays own first second sizes stack todo) p → (law ≡ 0 → ⊥) → (first_choice ≤ law) × (law ≤ highest_law)
-        law_bounds s e = let f = chosen_here e s.some_plan s.holding in (f.2, f.3)
+          pub law_bounds : SomePlan t c (arrays own first second sizes stack todo) p → (first_choice ≤ chose.law) × (chose.law ≤ highest_law)
+          law_bounds s = let f = chosen_here s.some_plan s.holding in (f.2, f.3)
 
-        -- the next step is not made, for want of allowance or of room in the list
-        module _ (some_law : law ≡ 0 → ⊥) where
+          -- the next step is not made, for want of allowance or of room in the list
           pub on-none_allowed : allowed ≡ 0
-              → AdvancedOn t c allowed room (arrays own first second sizes stack todo) (arrays own first second sizes stack todo) p (Stopped 34)
+              → AdvancedOn t c allowed room (arrays own first second sizes stack todo) (arrays own first second sizes stack todo) p (Stopped AllowanceSpent)
           on-none_allowed e =
               record {
                 advanced =
                     λ w h.
                     let x = there w h in
-                    let f = chosen_here some_law w h in
-                    not_made 34 (not_allowed t ok c most m p fits more w h high r x law f.0 f.1 f.3 (side_entries t law slots) f.4 allowed room e) refl;
+                    let f = chosen_here w h in
+                    not_made AllowanceSpent (not_allowed t ok c most m p fits more w h high r x chose.law f.0 f.1 f.3 (side_entries t chose.law (slots_of chose)) f.4 allowed room e) refl;
               }
 
           pub on-list_full : 1 ≤ allowed → room < 3
-              → AdvancedOn t c allowed room (arrays own first second sizes stack todo) (arrays own first second sizes stack todo) p (Stopped 35)
+              → AdvancedOn t c allowed room (arrays own first second sizes stack todo) (arrays own first second sizes stack todo) p (Stopped ListFull)
           on-list_full l i =
               record {
                 advanced =
                     λ w h.
                     let x = there w h in
-                    let f = chosen_here some_law w h in
-                    not_made 35 (no_room t ok c most m p fits more w h high r x law f.0 f.1 f.3 (side_entries t law slots) f.4 allowed room l i) refl;
+                    let f = chosen_here w h in
+                    not_made ListFull (no_room t ok c most m p fits more w h high r x chose.law f.0 f.1 f.3 (side_entries t chose.law (slots_of chose)) f.4 allowed room l i) refl;
               }
 
-        -- the right side of a law other than 0
-        module _ (some_law : law ≡ 0 → ⊥) (old : ℕ) (old_is : old ≡ size_under sizes (get_or todo p.rest 0) r) where
-          abbrev side : List ℕ
-          side = side_entries t law slots
+          -- the right side of the law
+          module _ (old : ℕ) (old_is : old ≡ size_under sizes (get_or todo p.rest 0) r) where
+            abbrev side : List ℕ
+            side = side_entries t chose.law (slots_of chose)
 
-          abbrev new : ℕ
-          new = entries_size sizes (side_entries t law slots)
+            abbrev new : ℕ
+            new = entries_size sizes (side_entries t chose.law (slots_of chose))
 
-          -- as many words as the plan may have, and as it has beside the redex
-          pub side_ready : SomePlan t c (arrays own first second sizes stack todo) p → PutReady sizes (side_entries t law slots) (p.rest + 1) (c - (p.size - old))
-          side_ready s =
-              let w = s.some_plan in
-              let h = s.holding in
-              let x = there w h in
-              let f = chosen_here some_law w h in
-              record {
-                reach = side-reach sizes few (omega (arith, length-take-le p.count own fits.nodes_in, fits.nodes_in, fits.sizes_long)) f.4;
-                room = λ l. side-room t ok c most m p fits more w h high r x law f.0 f.1 f.3 side f.4 new refl (omega (arith, old_is, h.size_is, h.short));
-              }
+            -- as many words as the plan may have, and as it has beside the redex
+            pub side_ready : SomePlan t c (arrays own first second sizes stack todo) p → PutReady sizes (side_entries t chose.law (slots_of chose)) (p.rest + 1) (c - (p.size - old))
+            side_ready s =
+                let w = s.some_plan in
+                let h = s.holding in
+                let x = there w h in
+                let f = chosen_here w h in
+                record {
+                  reach = side-reach sizes few (omega (arith, length-take-le p.count own fits.nodes_in, fits.nodes_in, fits.sizes_long)) f.4;
+                  room = λ l. side-room t ok c most m p fits more w h high r x chose.law f.0 f.1 f.3 side f.4 new refl (omega (arith, old_is, h.size_is, h.short));
+                }
 
-          pub on-too_long : 1 ≤ allowed → 3 ≤ room → {todo' : List ℕ} → (todo' ≡ todo) × (c - (p.size - old) < entries_size sizes (side_entries t law slots))
-              → AdvancedOn t c allowed room (arrays own first second sizes stack todo) (arrays own first second sizes stack todo') p (Stopped 36)
-          on-too_long l i q =
-              rw q.0
-              (record {
-                advanced =
-                    λ w h.
-                    let x = there w h in
-                    let f = chosen_here some_law w h in
-                    not_made 36 (over-long t ok c most m p fits more w h high r x law f.0 f.1 f.3 side f.4 new refl allowed room l i (omega (arith, old_is, h.size_is, h.short, q.1))) refl;
-              })
+            pub on-too_long : 1 ≤ allowed → 3 ≤ room → {todo' : List ℕ} → (todo' ≡ todo) × (c - (p.size - old) < entries_size sizes (side_entries t chose.law (slots_of chose)))
+                → AdvancedOn t c allowed room (arrays own first second sizes stack todo) (arrays own first second sizes stack todo') p (Stopped TooLong)
+            on-too_long l i q =
+                rw q.0
+                (record {
+                  advanced =
+                      λ w h.
+                      let x = there w h in
+                      let f = chosen_here w h in
+                      not_made TooLong (over-long t ok c most m p fits more w h high r x chose.law f.0 f.1 f.3 side f.4 new refl allowed room l i (omega (arith, old_is, h.size_is, h.short, q.1))) refl;
+                })
 
-          pub on_step : 1 ≤ allowed → 3 ≤ room → (front size : ℕ) {todo' : List ℕ}
-              → (todo' ≡ overwrite todo front (side_entries t law slots)) × (front + length (side_entries t law slots) ≡ p.rest + 1)
-              × (size ≡ entries_size sizes (side_entries t law slots)) × (size ≤ c - (p.size - old))
-              → {q : Reading} → q ≡ with_step p r.under front (p.read + 1 - old) (p.size - old + size)
-              → AdvancedOn t c allowed room (arrays own first second sizes stack todo) (arrays own first second sizes stack todo') p
-              (Step law q
-              (record { at = p.read + 1 - old; old = old; new = size; word = get_or todo p.rest 0; a = r.a; b = r.b }))
-          on_step l i front size d z =
-              rw (d.0, z, old_is)
-              (record {
-                advanced =
-                    λ w h.
-                    let x = there w h in
-                    let f = chosen_here some_law w h in
-                    step-made t ok c most m p fits more w h high r x law f.0 f.1 f.3 side f.4 size d.2 (omega (arith, old_is, h.size_is, h.short, d.3)) front d.1 allowed room l i;
-              })
+            pub on_step : 1 ≤ allowed → 3 ≤ room → (front size : ℕ) {todo' : List ℕ}
+                → (todo' ≡ overwrite todo front (side_entries t chose.law (slots_of chose))) × (front + length (side_entries t chose.law (slots_of chose)) ≡ p.rest + 1)
+                × (size ≡ entries_size sizes (side_entries t chose.law (slots_of chose))) × (size ≤ c - (p.size - old))
+                → {q : Reading} → q ≡ with_step p r.under front (p.read + 1 - old) (p.size - old + size)
+                → AdvancedOn t c allowed room (arrays own first second sizes stack todo) (arrays own first second sizes stack todo') p
+                (Step chose.law q
+                (record { at = p.read + 1 - old; old = old; new = size; word = get_or todo p.rest 0; a = r.a; b = r.b }))
+            on_step l i front size d z =
+                rw (d.0, z, old_is)
+                (record {
+                  advanced =
+                      λ w h.
+                      let x = there w h in
+                      let f = chosen_here w h in
+                      step-made t ok c most m p fits more w h high r x chose.law f.0 f.1 f.3 side f.4 size d.2 (omega (arith, old_is, h.size_is, h.short, d.3)) front d.1 allowed room l i;
+                })
 
 -- a right side put, or too long, by what was answered
 module _ {sizes entries todo : List ℕ} {rest most : ℕ} where
-  pub was_put : {todo' : List ℕ} {o : Put} → PutBefore sizes entries todo rest most todo' o → (front size : ℕ) → o ≡ At front size
-      → (todo' ≡ overwrite todo front entries) × (front + length entries ≡ rest) × (size ≡ entries_size sizes entries) × (size ≤ most)
-  was_put (put_at f s a b c) front size e =
-      let x : f ≡ front = cc in
-      let y : s ≡ size = cc in
-      (rw x, omega arith, sym y ∙ b, omega arith)
-  was_put (too_long a) front size e = let z : ◌≡◌ {A = ℕ} 0 1 = cc in absurd (omega arith)
+  pub was_put : {todo' : List ℕ} {o : Maybe Placed} → PutBefore sizes entries todo rest most todo' o → (d : Placed) → o ≡ Some d
+      → (todo' ≡ overwrite todo d.front entries) × (d.front + length entries ≡ rest) × (d.size ≡ entries_size sizes entries) × (d.size ≤ most)
+  was_put (put_at f s a b c) d e =
+      let q : d ≡ record { front = f; size = s } = cc in
+      rw q (refl, a, b, c)
+  was_put (too_long a) d e = let z : ◌≡◌ {A = ℕ} 0 1 = cc in absurd (omega arith)
 
-  pub was_long : {todo' : List ℕ} {o : Put} → PutBefore sizes entries todo rest most todo' o → o ≡ Long → (todo' ≡ todo) × (most < entries_size sizes entries)
+  pub was_long : {todo' : List ℕ} {o : Maybe Placed} → PutBefore sizes entries todo rest most todo' o → o ≡ None → (todo' ≡ todo) × (most < entries_size sizes entries)
   was_long (put_at f s a b c) e = let z : ◌≡◌ {A = ℕ} 0 1 = cc in absurd (omega arith)
   was_long (too_long a) e = (refl, a)

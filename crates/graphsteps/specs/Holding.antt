@@ -14,6 +14,8 @@ use Rattle.rewritings.specs.Choice.{Found, next_step}
 use Rattle.graphsteps.specs.declared.Reading.{Reading}
 use Rattle.graphsteps.specs.declared.Cut.{Cut}
 use Rattle.graphsteps.specs.declared.Operands.{Operands}
+use Rattle.graphsteps.specs.declared.Stop.{Stop}
+use Rattle.graphsteps.specs.Stopping.{stop_number}
 use Rattle.graphsteps.specs.declared.NextEntry.{NextEntry}
 use Rattle.graphsteps.specs.declared.NextEntry.TheVariants.{Read, Step, Stopped, NoNode}
 use Rattle.areas.specs.Area.{most_words}
@@ -127,7 +129,7 @@ pub data Advanced (t : Tables) (c allowed room : ℕ) (m m' : Arrays) (p : Readi
   stepped : (law : ℕ) (p' : Reading) (k : Cut) (w' : List ℕ) → 1 ≤ allowed → 3 ≤ room → law ≤ highest_law
       → next_step t w ≡ some (record { law = law; place = p.read; plan = w' })
       → Fits m' p' → Holding t c m' p' w' → CutOf (actions t) (in_use m' p'.count) k w w' → Advanced t c allowed room m m' p w (Step law p' k)
-  not_made : (number : ℕ) → NotMade t c allowed room w number → m' ≡ m → Advanced t c allowed room m m' p w (Stopped number)
+  not_made : (why : Stop) → NotMade t c allowed room w (stop_number why) → m' ≡ m → Advanced t c allowed room m m' p w (Stopped why)
   no_node : p.count ≡ length m.own → m' ≡ m → Advanced t c allowed room m m' p w NoNode
 
 -- whatever plan they hold, one entry more was read so

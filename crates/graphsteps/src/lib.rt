@@ -7,11 +7,12 @@ ghost use Rattle.tables.specs.Tables.{actions};
 ghost use Rattle.tables.specs.Lawful.{Lawful};
 ghost use Rattle.graphsteps.specs.Holding.{arrays, Fits, SomePlan, Signed, TakenFor, SizesOf, size_under, after_term};
 ghost use Rattle.graphsteps.specs.Holding.{after_sign, with_term, with_sign, with_step, AdvancedOn};
+ghost use Rattle.graphsteps.specs.Stopping.{stop_number};
 ghost use Rattle.areas.specs.Area.{most_words};
 ghost use Rattle.graph.specs.Graph.{most_nodes};
 
 use graph::FIRST_NODE;
-use redexes::{Bounds, Put};
+use redexes::Bounds;
 
 // How far the reading has come: entries on the stack, where the entries still to read begin, nodes in use; the words of the stack and of the
 // whole plan.
@@ -86,13 +87,34 @@ pub struct Operands {
     pub under: usize,
 }
 
-// What comes of the next entry: it is read; or a step is made there by a law; or the step is not made, for the reason with this number (34, 35
-// or 36); or it would become a node, and none is left.
+// Why the next step is not made, in the order in which it is asked.
+#[derive(Clone, Copy, Debug, PartialEq, Eq)]
+pub enum Stop {
+    AllowanceSpent,
+    ListFull,
+    TooLong,
+}
+
+impl Stop {
+    // The number by which the documents name it.
+    pub fn number(self) -> u8
+        ensures { result ≡ stop_number self }
+    {
+        match self {
+            Stop::AllowanceSpent => 34,
+            Stop::ListFull => 35,
+            Stop::TooLong => 36,
+        }
+    }
+}
+
+// What comes of the next entry: it is read; or a step is made there by a law; or the step is not made; or it would become a node, and none is
+// left.
 #[derive(Clone, Copy)]
 pub enum NextEntry {
     Read(Reading),
     Step(u8, Reading, Cut),
-    Stopped(u8),
+    Stopped(Stop),
     NoNode,
 }
 
@@ -211,7 +233,7 @@ pub fn advance(
     let word = v as u8;
     let operands = take_operands(&*stack, reading.height, word);
     let old = redex_size(&*sizes, word, operands);
-    let redex = redexes::redex_at(
+    let Some(redex) = redexes::redex_at(
         tables,
         &own[..count],
         &first[..count],
@@ -219,34 +241,32 @@ pub fn advance(
         word,
         operands.a,
         operands.b,
-    );
-    let law = redex.law;
-    if law == 0 {
+    ) else {
         if count == own.len() {
             return NextEntry::NoNode;
         }
         return NextEntry::Read(read_sign(
             own, first, second, sizes, stack, reading, word, operands, old,
         ));
-    }
+    };
     if allowed == 0 {
-        return NextEntry::Stopped(34);
+        return NextEntry::Stopped(Stop::AllowanceSpent);
     }
     if room < 3 {
-        return NextEntry::Stopped(35);
+        return NextEntry::Stopped(Stop::ListFull);
     }
     let kept = reading.size - old;
     let bounds = Bounds {
         rest: rest + 1,
         most: limit - kept,
     };
-    let put = redexes::put_side(tables, &*sizes, redex, todo, bounds);
-    let Put::At(front, new) = put else {
-        return NextEntry::Stopped(36);
+    let Some(placed) = redexes::put_side(tables, &*sizes, redex, todo, bounds) else {
+        return NextEntry::Stopped(Stop::TooLong);
     };
+    let new = placed.size;
     let size = kept + new;
     let at = reading.read + 1 - old;
-    let next = reading.after_step(operands.under, front, at, size);
+    let next = reading.after_step(operands.under, placed.front, at, size);
     let cut = Cut {
         at,
         old,
@@ -255,5 +275,5 @@ pub fn advance(
         a: operands.a,
         b: operands.b,
     };
-    NextEntry::Step(law, next, cut)
+    NextEntry::Step(redex.law, next, cut)
 }

@@ -13,12 +13,16 @@ use Rattle.listing.specs.Listing.{first_line, words_line, step_lines, ending}
 use Rattle.listing.specs.Writing.{Wrote}
 use Rattle.listing.proofs.Writing.{left_all, left_less, left-last}
 
-pub wrote-ending : {out d d' d'' : List ℕ} {next next' last : ℕ} (n e s : ℕ) (counts : Counts) (plan : List ℕ) (moves : List Move) → counts ≡ counts_of n plan
-    → Wrote out 0 (first_line e s (length plan) counts) d next → Wrote d next (words_line plan) d' next' → Wrote d' next' (step_lines moves) d'' last
-    → take last d'' ≡ ending n e s plan moves
+pub wrote-ending : {out d d' d'' : List ℕ} {at next next' last : ℕ} (n e s : ℕ) (counts : Counts) (plan : List ℕ) (moves : List Move) → at ≡ 0
+    → counts ≡ counts_of n plan → Wrote out at (first_line e s (length plan) counts) d next → Wrote d next (words_line plan) d' next'
+    → Wrote d' next' (step_lines moves) d'' last → take last d'' ≡ ending n e s plan moves
 unfolding ending
-wrote-ending {out} n e s counts plan moves q f w t =
-    (left-last (left_less (left_less (left_all out 0 _) (rw q at f)) w) t).so_far
+wrote-ending {out} n e s counts plan moves z q f w t =
+    (left-last (left_less (left_less (left_all out 0 _) (rw (z, q) at f)) w) t).so_far
+
+-- a line that is all of the text
+pub only_line : {out d line : List ℕ} {at last : ℕ} → at ≡ 0 → Wrote out at line d last → take last d ≡ line
+only_line z w = (rw z at w).so_far
 
 pub part-short : (e : Bool) (size m : ℕ) (a b : List ℕ) → length a ≡ m → length b ≡ m → length (reached_part e size a b) ≤ m
 unfolding reached_part

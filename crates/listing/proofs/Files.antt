@@ -1,4 +1,5 @@
 -- What is printed of a station file, from what reading it answers and leaves.
+use Rattle.std.specs.Prelude.{Result, Ok, Err}
 use Prim.Native.Nat.{ℕ, ◌≤◌, ◌-◌}
 use native.Mathlib.Omega.{arith}
 use mathlib.Core.Path.{◌≡◌, refl, sym, ◌∙◌, ap}
@@ -8,8 +9,6 @@ use lib.ListN.{length, take}
 use Rattle.refusals.specs.declared.Refusal.{Refusal}
 use Rattle.refusals.proofs.Judging.{none_of_both}
 use Rattle.areas.specs.Area.{padded}
-use Rattle.stations.specs.declared.StationRead.{StationRead}
-use Rattle.stations.specs.declared.StationRead.TheVariants.{Read, Refused}
 use Rattle.stations.specs.File.{form_refusal, file_refusal, tables_held, plan_held, station_outcome, StationOutcome}
 use Rattle.stations.specs.File as file_of
 use Rattle.stations.proofs.Forms.{tables-long}
@@ -36,7 +35,7 @@ module _ (f t p : List ℕ) (ht : length t ≡ 2305) (hp : length p ≡ 8192) wh
       ap (λ (m : ℕ). file_of.unless_refused (file_refusal f m (length p)) (tables_held f) (plan_held f) t p) ht
       ∙ ap (λ (m : ℕ). file_of.unless_refused (file_refusal f 2305 m) (tables_held f) (plan_held f) t p) hp
 
-  pub refused-file : {r : Refusal} (x : StationRead) (t' p' : List ℕ) → x ≡ Refused r → record { answer = x; tables = t'; plan = p' } ≡ station_outcome f t p
+  pub refused-file : {r : Refusal} (x : Result ℕ Refusal) (t' p' : List ℕ) → x ≡ Err r → record { answer = x; tables = t'; plan = p' } ≡ station_outcome f t p
       → listing f ≡ refused_line r
   unfolding listing
   refused-file {r} x t' p' q e = go (file_refusal f 2305 8192) (ap (λ (o : StationOutcome). o.answer) (e ∙ in_areas))
@@ -66,11 +65,11 @@ module _ (f t p : List ℕ) (ht : length t ≡ 2305) (hp : length p ≡ 8192) wh
             ∙ ap (λ (m : List ℕ). plan_listing t' m) (sym j);
       }
 
-  pub read-file : {k : ℕ} (x : StationRead) (t' p' : List ℕ) → x ≡ Read k → record { answer = x; tables = t'; plan = p' } ≡ station_outcome f t p → Prints f t' p' k
+  pub read-file : {k : ℕ} (x : Result ℕ Refusal) (t' p' : List ℕ) → x ≡ Ok k → record { answer = x; tables = t'; plan = p' } ≡ station_outcome f t p → Prints f t' p' k
   read-file {k} x t' p' q e = go (file_refusal f 2305 8192) refl (e ∙ in_areas)
     where
       go : (o : Option Refusal) → file_refusal f 2305 8192 ≡ o → record { answer = x; tables = t'; plan = p' } ≡ file_of.unless_refused o (tables_held f) (plan_held f) t p → Prints f t' p' k
       go (some g) h i = let z : ◌≡◌ {A = ℕ} 0 1 = cc (ap (λ (o : StationOutcome). o.answer) i) in absurd (omega arith)
       go none h i =
-          let z : Read k ≡ Read (length (plan_held f)) = sym q ∙ ap (λ (o : StationOutcome). o.answer) i in
+          let z : Ok k ≡ Ok (length (plan_held f)) = sym q ∙ ap (λ (o : StationOutcome). o.answer) i in
           read_by h (cc) (ap (λ (o : StationOutcome). o.tables) i) (ap (λ (o : StationOutcome). o.plan) i)

@@ -15,7 +15,8 @@ use Rattle.listing.proofs.Decimal.{decimal-count, decimal-short, labelled-length
 joined : (v rest : List ℕ) (a b : ℕ) → length v ≤ a → length rest ≤ b → length (v ++ rest) ≤ a + b
 joined v rest a b h k = omega (arith, length-append v rest)
 
-any_label : (l : List ℕ) (n : ℕ) → length (labelled l n) ≤ length l + 20
+-- a number has at most twenty digits
+pub any_label : (l : List ℕ) (n : ℕ) → length (labelled l n) ≤ length l + 20
 any_label l n = omega (arith, labelled-length l n, decimal-count n)
 
 short_label : (l : List ℕ) (k n : ℕ) → length (decimal n) ≤ k → length (labelled l n) ≤ length l + k

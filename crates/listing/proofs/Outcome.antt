@@ -1,4 +1,5 @@
 -- What listing a file answers and leaves, from the text that was made of it.
+use Rattle.std.specs.Prelude.{Some, None, Option as Maybe}
 use Prim.Native.Nat.{ℕ, ◌≤◌, ◌<◌, ◌+◌}
 use native.Mathlib.Omega.{arith}
 use mathlib.Core.Path.{◌≡◌, refl, sym, ◌∙◌, ap}
@@ -8,10 +9,7 @@ use lib.ListN.{length, take}
 use lib.Seq.{length-take-le}
 use lib.Dec.{leb}
 use borrow.Author.Tests.{le-leb, lt-leb, leb-true}
-use Rattle.areas.specs.Area.{overwrite, padded}
-use Rattle.areas.proofs.Area.{take-overwrite}
-use Rattle.listing.specs.declared.Listed.{Listed}
-use Rattle.listing.specs.declared.Listed.TheVariants.{Whole, Short}
+use Rattle.areas.specs.Area.{padded}
 use Rattle.listing.specs.Listing.{listing}
 use Rattle.listing.specs.Writing.{ListOutcome, if_fits, list_outcome, most}
 
@@ -23,34 +21,29 @@ module _ (f out d : List ℕ) (r : ℕ) (text : take r d ≡ listing f) (low : r
   pub bounded : length (listing f) ≤ most
   bounded = omega (arith, size)
 
-  pub too_short : length out < r → ◌≡◌ {A = ListOutcome} (record { answer = Short; out = out }) (list_outcome f out)
+  pub too_short : length out < r → ◌≡◌ {A = ListOutcome} (record { answer = None; out = out }) (list_outcome f out)
   unfolding list_outcome
   too_short h = sym (ap (λ (b : Bool). if_fits b (listing f) out) (lt-leb (length (listing f)) (length out) (omega (arith, size))))
 
-  front : {out' : List ℕ} → out' ≡ overwrite out 0 (take r d) → take r out' ≡ listing f
-  front {out'} e =
-      let i : r ≡ 0 + length (take r d) = omega (arith, length-take-le r d (omega arith)) in
-      ap (λ (m : ℕ). take m out') i ∙ ap (λ (m : List ℕ). take (0 + length (take r d)) m) e ∙ take-overwrite out 0 (take r d) (omega arith) ∙ text
-
-  pub copied : {out' out'' : List ℕ} → r ≤ length out → out' ≡ overwrite out 0 (take r d) → length out' ≡ length out → out'' ≡ padded (take r out') (length out')
-      → ◌≡◌ {A = ListOutcome} (record { answer = Whole r; out = out'' }) (list_outcome f out)
+  pub put : {out' : List ℕ} → r ≤ length out → out' ≡ padded (take r d) (length out)
+      → ◌≡◌ {A = ListOutcome} (record { answer = Some r; out = out' }) (list_outcome f out)
   unfolding list_outcome
-  copied {out'} {out''} h e k g =
-      let i : out'' ≡ padded (listing f) (length out) = g ∙ ap (λ (m : List ℕ). padded m (length out')) (front e) ∙ ap (λ (m : ℕ). padded (listing f) m) k in
-      ap (λ (m : ℕ). record { answer = Whole m; out = out'' }) size
-      ∙ ap (λ (m : List ℕ). record { answer = Whole (length (listing f)); out = m }) i
+  put {out'} h e =
+      let i : out' ≡ padded (listing f) (length out) = e ∙ ap (λ (m : List ℕ). padded m (length out)) text in
+      ap (λ (m : ℕ). record { answer = Some m; out = out' }) size
+      ∙ ap (λ (m : List ℕ). record { answer = Some (length (listing f)); out = m }) i
       ∙ sym (ap (λ (b : Bool). if_fits b (listing f) out) (le-leb (length (listing f)) (length out) (omega (arith, size))))
 
 -- a listing that is said to be whole lies within its area
-pub listed_within : (f out : List ℕ) {k : ℕ} (x : Listed) (out' : List ℕ) → x ≡ Whole k → record { answer = x; out = out' } ≡ list_outcome f out → k ≤ length out
+pub listed_within : (f out : List ℕ) {k : ℕ} (x : Maybe ℕ) (out' : List ℕ) → x ≡ Some k → record { answer = x; out = out' } ≡ list_outcome f out → k ≤ length out
 unfolding list_outcome
 listed_within f out {k} x out' q e = go (leb (length (listing f)) (length out)) refl (sym q ∙ ap (λ (o : ListOutcome). o.answer) e)
   where
-    go : (b : Bool) → leb (length (listing f)) (length out) ≡ b → Whole k ≡ (if_fits b (listing f) out).answer → k ≤ length out
+    go : (b : Bool) → leb (length (listing f)) (length out) ≡ b → Some k ≡ (if_fits b (listing f) out).answer → k ≤ length out
     go true h i = let j : k ≡ length (listing f) = cc in omega (arith, leb-true (length (listing f)) (length out) h)
     go false h i = let z : ◌≡◌ {A = ℕ} 0 1 = cc in absurd (omega arith)
 
 -- an area that holds any listing is never too short
-pub never_short : (f out : List ℕ) → length (listing f) ≤ most → most ≤ length out → (list_outcome f out).answer ≡ Whole (length (listing f))
+pub never_short : (f out : List ℕ) → length (listing f) ≤ most → most ≤ length out → (list_outcome f out).answer ≡ Some (length (listing f))
 unfolding list_outcome
 never_short f out h k = ap (λ (b : Bool). (if_fits b (listing f) out).answer) (le-leb (length (listing f)) (length out) (omega arith))

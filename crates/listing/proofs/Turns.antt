@@ -4,7 +4,7 @@ use native.Mathlib.Omega.{arith}
 use native.Mathlib.Numerals.{add-one}
 use mathlib.Core.Path.{◌≡◌, refl}
 use mathlib.Core.List.{List, [], ◌∷◌, ◌++◌, append_assoc}
-use lib.ListN.{length, get_or, drop, length-drop, drop_of_length-le}
+use lib.ListN.{length, get_or, drop, drop_of_length-le}
 use lib.Seq.{drop-cons}
 use Rattle.rewritings.specs.Moves.{moves_of}
 use Rattle.listing.specs.Text.{labelled, line_end, space}
@@ -32,27 +32,19 @@ pub words-end : (ws : List ℕ) (i : ℕ) → length ws ≤ i → words_left ws 
 unfolding further_words
 words-end ws i h = rw (drop_of_length-le ws h)
 
--- the steps recorded from byte i on
-abbrev pub steps-left : List ℕ → ℕ → List ℕ
-steps-left rs i = step_lines (moves_of (drop i rs))
-
-pub steps-turn : (rs : List ℕ) (i : ℕ) → i + 2 < length rs
-    → steps-left rs i ≡ step_line (get_or rs i 0) (get_or rs (i + 1) 0 + 256 * get_or rs (i + 2) 0) ++ steps-left rs (i + 3)
+-- the steps recorded, one after another
+pub steps_turn : (rs : List ℕ) → 3 ≤ length rs
+    → step_lines (moves_of rs) ≡ step_line (get_or rs 0 0) (get_or rs 1 0 + 256 * get_or rs 2 0) ++ step_lines (moves_of (drop 3 rs))
 unfolding step_lines moves_of
-steps-turn rs i h =
-    let a : i + 1 ≡ suc i = omega arith in
-    let b : i + 2 ≡ suc (suc i) = omega arith in
-    let d : i + 3 ≡ suc (suc (suc i)) = omega arith in
-    rw (a, b, d, drop-cons rs i 0 (omega arith), drop-cons rs (suc i) 0 (omega arith), drop-cons rs (suc (suc i)) 0 (omega arith))
+steps_turn [] h = absurd (omega arith)
+steps_turn (k ∷ []) h = absurd (omega arith)
+steps_turn (k ∷ (l ∷ [])) h = absurd (omega arith)
+steps_turn (k ∷ (l ∷ (x ∷ r))) h = refl
 
 -- one or two bytes are no step
-few_bytes : (l : List ℕ) → length l ≤ 2 → moves_of l ≡ []
-unfolding moves_of
-few_bytes [] h = refl
-few_bytes (k ∷ []) h = refl
-few_bytes (k ∷ (l ∷ [])) h = refl
-few_bytes (k ∷ (l ∷ (x ∷ r))) h = absurd (omega arith)
-
-pub steps-end : (rs : List ℕ) (i : ℕ) → length rs ≤ i + 2 → steps-left rs i ≡ []
-unfolding step_lines
-steps-end rs i h = rw (few_bytes (drop i rs) (omega (arith, length-drop i rs)))
+pub steps_end : (rs : List ℕ) → length rs < 3 → step_lines (moves_of rs) ≡ []
+unfolding step_lines moves_of
+steps_end [] h = refl
+steps_end (k ∷ []) h = refl
+steps_end (k ∷ (l ∷ [])) h = refl
+steps_end (k ∷ (l ∷ (x ∷ r))) h = absurd (omega arith)

@@ -1,4 +1,5 @@
 -- What is printed of a plan, from what the unfolding answers and leaves.
+use Rattle.std.specs.Prelude.{Result, Ok, Err}
 use Prim.Native.Nat.{ℕ, ◌*◌, ◌≤◌, min}
 use native.Mathlib.Omega.{arith}
 use mathlib.Core.Path.{◌≡◌, refl, sym, ◌∙◌, ap}
@@ -15,20 +16,16 @@ use Rattle.areas.specs.Reached.{capacity, even?, area_a, area_b, reached_part}
 use Rattle.rewritings.specs.Moves.{Move, bytes_of, moves_of}
 use Rattle.rewritings.proofs.Moves.{moves_bytes}
 use Rattle.unfolding.specs.declared.Unfolded.{Unfolded}
-use Rattle.unfolding.specs.declared.Unfolded.TheVariants.{Finished, Stopped, Refused}
+use Rattle.unfolding.specs.declared.Unfolded.TheVariants.{Finished, Stopped}
 use Rattle.rewritings.specs.Runs.{Run, run_of}
 use Rattle.unfolding.specs.Unfolding.{unfold_refusal, unfold_outcome, UnfoldOutcome}
 use Rattle.unfolding.specs.Unfolding as unfolding_of
 use Rattle.demands.specs.Reports.{own_rewriting}
 use Rattle.demands.proofs.Running.{run-records-long, run-held}
 use Rattle.demands.proofs.Reports.{take-padded, reached_is, unfold_accepts}
+use Rattle.listing.specs.Ended.{Ended, finished, stopped}
 use Rattle.listing.specs.Listing as listing_of
 use Rattle.listing.specs.Listing.{ending, refused_line, plan_listing}
-
--- an answer of an unfolding that ended with a number, after so many steps, at a plan of so many words
-pub data Ended : Unfolded → ℕ → ℕ → ℕ → Type 0 where
-  finished : {steps size : ℕ} → Ended (Finished steps size) 0 steps size
-  stopped : {number steps size : ℕ} → Ended (Stopped number steps size) number steps size
 
 -- it is that of the run
 record Same (r : Run) (n s k : ℕ) : Type 0 where
@@ -37,19 +34,18 @@ record Same (r : Run) (n s k : ℕ) : Type 0 where
   size : k ≡ length r.plan
 
 same_by : (r : Run) (b : Bool) → eqb r.number 0 ≡ b → {x : Unfolded} {n s k : ℕ} → Ended x n s k
-    → x ≡ cond b (Finished r.steps (length r.plan)) (Stopped r.number r.steps (length r.plan)) → Same r n s k
+    → ◌≡◌ {A = Result Unfolded Refusal} (Ok x) (cond b (Ok (Finished r.steps (length r.plan))) (Ok (Stopped r.number r.steps (length r.plan)))) → Same r n s k
 same_by r true q finished e = record { number = sym (eqb-true r.number 0 q); steps = cc; size = cc }
 same_by r true q stopped e = let z : ◌≡◌ {A = ℕ} 0 1 = cc in absurd (omega arith)
 same_by r false q finished e = let z : ◌≡◌ {A = ℕ} 0 1 = cc in absurd (omega arith)
 same_by r false q stopped e = record { number = cc; steps = cc; size = cc }
 
-not_refused : (r : Run) (f : Refusal) (b : Bool) → Refused f ≡ cond b (Finished r.steps (length r.plan)) (Stopped r.number r.steps (length r.plan)) → ⊥
+not_refused : (r : Run) (f : Refusal) (b : Bool) → Err f ≡ cond b (Ok (Finished r.steps (length r.plan))) (Ok (Stopped r.number r.steps (length r.plan))) → ⊥
 not_refused r f true e = let z : ◌≡◌ {A = ℕ} 0 1 = cc in omega arith
 not_refused r f false e = let z : ◌≡◌ {A = ℕ} 0 1 = cc in omega arith
 
-not_ended : (g : Refusal) {x : Unfolded} {n s k : ℕ} → Ended x n s k → x ≡ Refused g → ⊥
-not_ended g finished e = let z : ◌≡◌ {A = ℕ} 0 1 = cc in omega arith
-not_ended g stopped e = let z : ◌≡◌ {A = ℕ} 0 1 = cc in omega arith
+not_ended : (g : Refusal) (x : Unfolded) → Ok x ≡ Err g → ⊥
+not_ended g x e = let z : ◌≡◌ {A = ℕ} 0 1 = cc in omega arith
 
 -- what is printed of a plan whose unfolding ended with number n after s steps, and left the list l, the areas y and z, and k words reached
 pub record Prints (t : Tables) (plan l y z : List ℕ) (n s k : ℕ) : Type 0 where
@@ -73,7 +69,7 @@ module _ (t : Tables) (plan list a b : List ℕ) (hl : length list ≡ 15000) (h
       ∙ ap (λ (m : ℕ). unfolding_of.unless_refused (unfold_refusal t plan 8192) (run_of t plan 5000 m 8192) list a b) hl
 
   -- refused
-  pub refused-listing : {f : Refusal} (x : Unfolded) (l y z : List ℕ) → x ≡ Refused f → record { answer = x; list = l; a = y; b = z } ≡ unfold_outcome t plan 5000 list a b
+  pub refused-listing : {f : Refusal} (x : Result Unfolded Refusal) (l y z : List ℕ) → x ≡ Err f → record { answer = x; list = l; a = y; b = z } ≡ unfold_outcome t plan 5000 list a b
       → plan_listing t plan ≡ refused_line f
   unfolding plan_listing
   refused-listing {f} x l y z q e = go (unfold_refusal t plan 8192) (ap (λ (o : UnfoldOutcome). o.answer) (e ∙ in_areas))
@@ -115,12 +111,12 @@ module _ (t : Tables) (plan list a b : List ℕ) (hl : length list ≡ 15000) (h
             ∙ ap (λ (j : List Move). ending (actions t) n s (reached_part (even? s) k y z) j) (sym o);
       }
 
-  pub ended-listing : {x : Unfolded} {n s k : ℕ} (x' : Unfolded) (l y z : List ℕ) → Ended x n s k → x' ≡ x
+  pub ended-listing : {x : Unfolded} {n s k : ℕ} (x' : Result Unfolded Refusal) (l y z : List ℕ) → Ended x n s k → x' ≡ Ok x
       → record { answer = x'; list = l; a = y; b = z } ≡ unfold_outcome t plan 5000 list a b → Prints t plan l y z n s k
   ended-listing {x} {n} {s} {k} x' l y z d q e = go (unfold_refusal t plan 8192) refl (e ∙ in_areas)
     where
       go : (o : Option Refusal) → unfold_refusal t plan 8192 ≡ o → record { answer = x'; list = l; a = y; b = z } ≡ unfolding_of.unless_refused o R list a b → Prints t plan l y z n s k
-      go (some g) h i = absurd (not_ended g d (sym q ∙ ap (λ (o : UnfoldOutcome). o.answer) i))
+      go (some g) h i = absurd (not_ended g x (sym q ∙ ap (λ (o : UnfoldOutcome). o.answer) i))
       go none h i =
           settled-listing h (same_by R (eqb R.number 0) refl d (sym q ∙ ap (λ (o : UnfoldOutcome). o.answer) i)) (ap (λ (o : UnfoldOutcome). o.list) i)
           (ap (λ (o : UnfoldOutcome). o.a) i) (ap (λ (o : UnfoldOutcome). o.b) i)

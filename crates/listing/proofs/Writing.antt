@@ -35,29 +35,15 @@ left_none {d₀} {d} {whole} {at} {next} l = record { so_far = sym (append-nil (
 pub left-last : {d₀ d d' whole v : List ℕ} {at next next' : ℕ} → Left d₀ at whole d next v → Wrote d next v d' next' → Wrote d₀ at whole d' next'
 left-last {d₀} {d} {d'} {whole} {v} {at} {next} {next'} l w = record { so_far = w.so_far ∙ l.so_far; after = omega (arith, l.place, w.after) }
 
--- the same, of an area that keeps its length
-pub record Going (d₀ : List ℕ) (at : ℕ) (whole d : List ℕ) (next : ℕ) (rest : List ℕ) : Type 0 where
-  pub left : Left d₀ at whole d next rest
-  pub long : length d ≡ length d₀
+-- the room for a piece, and for all that is left
+pub left_room : {d₀ d whole : List ℕ} {at next m : ℕ} (v rest : List ℕ) → Left d₀ at whole d next (v ++ rest) → at + length whole ≤ m → next + length v ≤ m
+left_room v rest l h = omega (arith, l.place, length-append v rest)
 
-pub going_all : (d : List ℕ) (at : ℕ) (whole : List ℕ) → Going d at whole d at whole
-going_all d at whole = record { left = left_all d at whole; long = refl }
+pub left_behind : {d₀ d whole rest : List ℕ} {at next m : ℕ} → Left d₀ at whole d next rest → at + length whole ≤ m → next + length rest ≤ m
+left_behind l h = omega (arith, l.place)
 
-pub going_room : {d₀ d whole : List ℕ} {at next : ℕ} (v rest : List ℕ) → Going d₀ at whole d next (v ++ rest) → at + length whole ≤ length d₀ → next + length v ≤ length d
-going_room v rest g h = omega (arith, g.left.place, g.long, length-append v rest)
-
-pub going_behind : {d₀ d whole rest : List ℕ} {at next : ℕ} → Going d₀ at whole d next rest → at + length whole ≤ length d₀ → next + length rest ≤ length d
-going_behind g h = omega (arith, g.left.place, g.long)
-
-pub going_more : {d₀ d d' whole v rest : List ℕ} {at next next' : ℕ} → Going d₀ at whole d next (v ++ rest) → Wrote d next v d' next' → length d' ≡ length d
-    → Going d₀ at whole d' next' rest
-going_more g w k = record { left = left_less g.left w; long = k ∙ g.long }
-
-pub going_end : {d₀ d whole : List ℕ} {at next : ℕ} → Going d₀ at whole d next line_end → at + length whole ≤ length d₀ → next < length d
-going_end g h = omega (arith, g.left.place, g.long)
-
-pub going_last : {d₀ d d' whole v : List ℕ} {at next next' : ℕ} → Going d₀ at whole d next v → Wrote d next v d' next' → Wrote d₀ at whole d' next'
-going_last g w = left-last g.left w
+pub left_end : {d₀ d whole : List ℕ} {at next m : ℕ} → Left d₀ at whole d next line_end → at + length whole ≤ m → next < m
+left_end l h = omega (arith, l.place)
 
 -- where no more than m bytes of text were written
 pub wrote-within : {d d' v : List ℕ} {at r : ℕ} (m : ℕ) → Wrote d at v d' r → length v ≤ m → r ≤ at + m

@@ -8,9 +8,12 @@ ghost use Rattle.rewritings.specs.Moves.{moves_of};
 ghost use Rattle.demands.specs.Reports.{own_rewriting};
 ghost use Rattle.listing.specs.Listing.{ending, plan_listing, listing};
 ghost use Rattle.listing.specs.Endings.{Endings};
+ghost use Rattle.listing.specs.Ended.{Ended};
+ghost use Rattle.listing.specs.Written.{written};
 ghost use Rattle.listing.specs.Writing.{ListOutcome, list_outcome, most};
 
-use stations::StationRead;
+pub use text::LONGEST;
+use text::Text;
 use unfolding::Unfolded;
 
 mod lines;
@@ -26,90 +29,95 @@ const LIST: usize = 15000;
 // 01: "One slice of 2,305 bytes".
 const TABLES: usize = 2305;
 
-// No listing is longer.
-pub const LONGEST: usize = 93000;
-
-// What a listing comes to: so many bytes, all of it; or the area is too short for it.
+// How an unfolding ended: its number, 0 where it finished, the steps made and the size of the plan reached.
 #[derive(Clone, Copy)]
-pub enum Listed {
-    Whole(usize),
-    Short,
-}
-
-// The listing of an unfolding that ended with a number, 0 where it finished, after so many steps, with its list and areas.
-fn put_ending<'a>(
-    tables: &[u8],
+struct End {
     number: u8,
     steps: usize,
     size: usize,
-    list: &[u8],
-    a: &'a [u8],
-    b: &'a [u8],
-    out: &mut [u8],
-) -> usize
-    requires { (actions tables.now ≤ 31) × (length a.now ≡ 8192) × (length b.now ≡ 8192)
-        × (3 * steps ≤ length list.now) × (length list.now ≡ 15000) × (most ≤ length out.old) }
-    ensures { (take result out.new
-        ≡ ending (actions tables.now) number steps
-        (reached_part (even? steps) size a.now b.now) (moves_of (own_rewriting steps list.now)))
-        × (result ≤ most) }
-{
-    let plan = aberulwy::reached(a, b, steps, size);
-    let counts = plans::count_orders(tables::actions_of(tables), plan);
-    let mut next = lines::put_first(number as usize, steps, plan.len(), counts, &mut *out, 0);
-    next = lines::put_words(plan, &mut *out, next);
-    let used = 3 * steps;
-    lines::put_steps(&list[..used], out, next)
 }
 
-// The listing of a plan: its unfolding within the program's limits, or why it was refused.
-fn put_plan(tables: &[u8], plan: &[u8], out: &mut [u8]) -> usize
-    requires { most ≤ length out.old }
-    ensures { (take result out.new ≡ plan_listing tables.now plan.now) × (result ≤ most) }
+impl From<Unfolded> for End {
+    ghost from_gives = { λ unfolded end. Ended unfolded end.number end.steps end.size };
+
+    fn from(unfolded: Unfolded) -> End {
+        match unfolded {
+            Unfolded::Finished { steps, size } => End {
+                number: 0,
+                steps,
+                size,
+            },
+            Unfolded::Stopped {
+                number,
+                steps,
+                size,
+            } => End {
+                number,
+                steps,
+                size,
+            },
+        }
+    }
+}
+
+// Lists an unfolding by how it ended, with its list and areas.
+fn put_ending(tables: &[u8], end: End, list: &[u8], a: &[u8], b: &[u8], text: &mut Text)
+    requires { (actions tables.now ≤ 31) × (length a.now ≡ 8192) × (length b.now ≡ 8192)
+        × (3 * end.steps ≤ length list.now) × (length list.now ≡ 15000) × (text.old.size ≡ 0) }
+    ensures { written text.new ≡ ending (actions tables.now) end.number end.steps
+        (reached_part (even? end.steps) end.size a.now b.now) (moves_of (own_rewriting end.steps list.now)) }
+{
+    let plan = aberulwy::reached(a, b, end.steps, end.size);
+    let counts = plans::count_orders(tables::actions_of(tables), plan);
+    text.put_first(end.number as usize, end.steps, plan.len(), counts);
+    text.put_words(plan);
+    let used = 3 * end.steps;
+    text.put_steps(&list[..used]);
+}
+
+// Lists a plan: its unfolding within the program's limits, or why it was refused.
+fn put_plan(tables: &[u8], plan: &[u8], text: &mut Text)
+    requires { text.old.size ≡ 0 }
+    ensures { written text.new ≡ plan_listing tables.now plan.now }
 {
     let mut list = [0u8; LIST];
     let mut a = [0u8; AREA];
     let mut b = [0u8; AREA];
     match aberulwy::unfold(tables, plan, ALLOWANCE, &mut list, &mut a, &mut b) {
-        Unfolded::Refused(refusal) => lines::put_refusal(refusal, out, 0),
-        Unfolded::Finished { steps, size } => put_ending(
-            tables, 0, steps, size, &list, &a, &b, out,
-        ),
-        Unfolded::Stopped {
-            number,
-            steps,
-            size,
-        } => put_ending(tables, number, steps, size, &list, &a, &b, out),
+        Err(refusal) => text.put_refusal(refusal),
+        Ok(unfolded) => put_ending(tables, End::from(unfolded), &list, &a, &b, text),
     }
 }
 
-// The listing of a station file, in an area that holds any listing.
-fn put_station(file: &[u8], out: &mut [u8]) -> usize
-    requires { most ≤ length out.old }
-    ensures { (take result out.new ≡ listing file.now) × (result ≤ most) }
+// Lists what a station file holds, or why it was refused.
+fn put_station(file: &[u8], text: &mut Text)
+    requires { text.old.size ≡ 0 }
+    ensures { written text.new ≡ listing file.now }
 {
     let mut tables = [0u8; TABLES];
     let mut plan = [0u8; AREA];
     match aberulwy::read_station(file, &mut tables, &mut plan) {
-        StationRead::Refused(refusal) => lines::put_refusal(refusal, out, 0),
-        StationRead::Read { size } => put_plan(&tables, &plan[..size], out),
+        Err(refusal) => text.put_refusal(refusal),
+        Ok(size) => put_plan(&tables, &plan[..size], text),
     }
 }
 
-// Lists a station file: everything that the program prints for it, with zeros behind, or `Short` where the area is too short for it, which then
+// Lists a station file: everything that the program prints for it, with zeros behind, or `None` where the area is too short for it, which then
 // keeps its bytes. No listing is longer than 93,000 bytes, and the number behind `end` is 0, 34 or 36;
 // under 34 and 36 orders and stuck are both 0.
-pub fn list_station(file: &[u8], out: &mut [u8]) -> Listed
+pub fn list_station(file: &[u8], out: &mut [u8]) -> Option<usize>
     ensures whole { ◌≡◌ {A = ListOutcome} (record { answer = result; out = out.new }) (list_outcome file.now out.old) }
     ensures bounded { length (listing file.now) ≤ most }
     ensures endings { Endings file.now }
 {
-    let mut text = [0u8; LONGEST];
-    let size = put_station(file, &mut text);
-    if out.len() < size {
-        return Listed::Short;
+    let mut text = Text {
+        bytes: [0u8; LONGEST],
+        size: 0,
+    };
+    put_station(file, &mut text);
+    if out.len() < text.size {
+        return None;
     }
-    areas::copy_in(&text[..size], &mut *out, 0);
-    areas::clear_from(out, size);
-    Listed::Whole(size)
+    areas::put_whole(&text.bytes[..text.size], out);
+    Some(text.size)
 }

@@ -2,86 +2,77 @@
 ghost use Rattle.std.specs.Prelude.{◌+◌, ◌*◌, ◌≤◌, length};
 ghost use Rattle.rewritings.specs.Moves.{moves_of};
 ghost use Rattle.listing.specs.Listing.{first_line, words_line, step_line, step_lines, refused_line};
-ghost use Rattle.listing.specs.Writing.{Wrote};
+ghost use Rattle.listing.specs.Writing.{Wrote, most};
 
-use crate::text;
+use crate::text::Text;
 use plans::Counts;
 use refusals::Refusal;
 
-// The first line: how the unfolding ended, the steps made, the size of the plan reached, its orders and its stuck paths.
-pub fn put_first(
-    number: usize,
-    steps: usize,
-    size: usize,
-    counts: Counts,
-    out: &mut [u8],
-    at: usize,
-) -> usize
-    requires { at + 133 ≤ length out.old }
-    ensures { Wrote out.old at (first_line number steps size counts) out.new result × (result ≤ at + 133) }
-{
-    let mut next = text::put_labelled(b"end ", number, &mut *out, at);
-    next = text::put_labelled(b" steps ", steps, &mut *out, next);
-    next = text::put_labelled(b" size ", size, &mut *out, next);
-    next = text::put_labelled(b" orders ", counts.orders, &mut *out, next);
-    next = text::put_labelled(b" stuck ", counts.stuck, &mut *out, next);
-    text::put_line_end(out, next)
-}
-
-// The words reached on one line, with one space between two.
-pub fn put_words(plan: &[u8], out: &mut [u8], at: usize) -> usize
-    requires { at + (4 * length plan.now + 1) ≤ length out.old }
-    ensures { Wrote out.old at (words_line plan.now) out.new result × (result ≤ at + (4 * length plan.now + 1)) }
-{
-    if plan.len() == 0 {
-        return text::put_line_end(out, at);
+impl Text {
+    // The first line: how the unfolding ended, the steps made, the size of the plan reached, its orders and its stuck paths.
+    #[tactic(auto, using(crate::proofs::Lengths::any_label))]
+    pub fn put_first(&mut self, number: usize, steps: usize, size: usize, counts: Counts)
+        requires { self.old.size + 133 ≤ most }
+        ensures { Wrote self.old.bytes self.old.size (first_line number steps size counts) self.new.bytes self.new.size
+            × (self.new.size ≤ self.old.size + 133) }
+    {
+        self.put_labelled(b"end ", number);
+        self.put_labelled(b" steps ", steps);
+        self.put_labelled(b" size ", size);
+        self.put_labelled(b" orders ", counts.orders);
+        self.put_labelled(b" stuck ", counts.stuck);
+        self.end_line();
     }
-    let mut next = text::put_labelled(b"", plan[0] as usize, &mut *out, at);
-    let mut i: usize = 1;
-    while i < plan.len() {
-        next = text::put_labelled(b" ", plan[i] as usize, &mut *out, next);
-        i += 1;
+
+    // The words reached on one line, with one space between two.
+    pub fn put_words(&mut self, plan: &[u8])
+        requires { self.old.size + (4 * length plan.now + 1) ≤ most }
+        ensures { Wrote self.old.bytes self.old.size (words_line plan.now) self.new.bytes self.new.size
+            × (self.new.size ≤ self.old.size + (4 * length plan.now + 1)) }
+    {
+        let [first, others @ ..] = plan else {
+            self.end_line();
+            return;
+        };
+        self.put_labelled(b"", *first as usize);
+        for &word in others {
+            self.put_labelled(b" ", word as usize);
+        }
+        self.end_line();
     }
-    text::put_line_end(out, next)
-}
 
-// One step on a line: its law and its place.
-fn put_step(law: u8, place: usize, out: &mut [u8], at: usize) -> usize
-    requires { at + length (step_line law place) ≤ length out.old }
-    ensures { Wrote out.old at (step_line law place) out.new result }
-{
-    let mut next = text::put_labelled(b"", law as usize, &mut *out, at);
-    next = text::put_labelled(b" ", place, &mut *out, next);
-    text::put_line_end(out, next)
-}
-
-// A line for each step that is recorded: "in three bytes: law, then place, low byte first" (01).
-pub fn put_steps(records: &[u8], out: &mut [u8], at: usize) -> usize
-    requires { at + 4 * length records.now ≤ length out.old }
-    ensures { Wrote out.old at (step_lines (moves_of records.now)) out.new result
-        × (result ≤ at + 4 * length records.now) }
-{
-    let mut next = at;
-    let mut i: usize = 0;
-    while i + 2 < records.len() {
-        let law = records[i];
-        let low = records[i + 1] as usize;
-        let high = records[i + 2] as usize;
-        let place = low + 256 * high;
-        next = put_step(law, place, &mut *out, next);
-        i += 3;
+    // One step on a line: its law and its place.
+    fn put_step(&mut self, law: u8, place: usize)
+        requires { self.old.size + length (step_line law place) ≤ most }
+        ensures { Wrote self.old.bytes self.old.size (step_line law place) self.new.bytes self.new.size }
+    {
+        self.put_labelled(b"", law as usize);
+        self.put_labelled(b" ", place);
+        self.end_line();
     }
-    next
-}
 
-// The only line where something is refused: the refusal's number and its place.
-pub fn put_refusal(refusal: Refusal, out: &mut [u8], at: usize) -> usize
-    requires { at + 50 ≤ length out.old }
-    ensures { Wrote out.old at (refused_line refusal) out.new result × (result ≤ at + 50) }
-{
-    let number = refusal.number;
-    let place = refusal.place;
-    let mut next = text::put_labelled(b"refused ", number as usize, &mut *out, at);
-    next = text::put_labelled(b" ", refusals::print_place(place), &mut *out, next);
-    text::put_line_end(out, next)
+    // A line for each step that is recorded: "in three bytes: law, then place, low byte first" (01).
+    pub fn put_steps(&mut self, records: &[u8])
+        requires { self.old.size + 4 * length records.now ≤ most }
+        ensures { Wrote self.old.bytes self.old.size (step_lines (moves_of records.now)) self.new.bytes self.new.size
+            × (self.new.size ≤ self.old.size + 4 * length records.now) }
+    {
+        let mut left = records;
+        while let [law, low, high, others @ ..] = left {
+            self.put_step(*law, *low as usize + 256 * (*high as usize));
+            left = others;
+        }
+    }
+
+    // The only line where something is refused: the refusal's number and its place.
+    #[tactic(auto, using(crate::proofs::Lengths::any_label))]
+    pub fn put_refusal(&mut self, refusal: Refusal)
+        requires { self.old.size + 50 ≤ most }
+        ensures { Wrote self.old.bytes self.old.size (refused_line refusal) self.new.bytes self.new.size
+            × (self.new.size ≤ self.old.size + 50) }
+    {
+        self.put_labelled(b"refused ", refusal.number as usize);
+        self.put_labelled(b" ", refusals::print_place(refusal.place));
+        self.end_line();
+    }
 }

@@ -18,7 +18,7 @@ use Rattle.laws.specs.Laws.{Pattern, any, any_action, δ, entry, node, θ, ∂, 
 use Rattle.matching.specs.Left.{back, next_of, slot_of, match_words, Matched}
 use Rattle.plans.specs.Place.{part}
 use Rattle.matching.specs.Check.{letter}
-use Rattle.matching.specs.declared.left.Moved.TheVariants.{To, Fails}
+use Rattle.std.specs.Prelude.{Some, None}
 use Rattle.laws.proofs.Tests.{and_left, and_right}
 use Rattle.plans.proofs.Standing.{height, Stands, stands-start, stands_pop, last, parts, stands_parts, height-parts, stands-last, part-term, part-last}
 
@@ -31,19 +31,19 @@ module _ (n : ℕ) (few : n ≤ 31) (plan : List ℕ) where
     less_one : height (t ∷ s) - 1 ≡ height (parts t s)
     less_one = omega (arith, height-parts t s)
 
-    next-sign : (w : ℕ) → w < 96 → next_of n plan w (height (t ∷ s)) ≡ cond (eqb (last t) w) (To (height (parts t s))) Fails
+    next-sign : (w : ℕ) → w < 96 → next_of n plan w (height (t ∷ s)) ≡ cond (eqb (last t) w) (Some (height (parts t s))) None
     unfolding next_of
     next-sign w l = rw (some_end, lt-ltb w 96 l, stands-last n few plan t s h, less_one)
 
-    next-any : (w : ℕ) → 96 ≤ w → w < 99 → next_of n plan w (height (t ∷ s)) ≡ To (height s)
+    next-any : (w : ℕ) → 96 ≤ w → w < 99 → next_of n plan w (height (t ∷ s)) ≡ Some (height s)
     unfolding next_of
-    next-any w l u = rw (some_end, le-ltb w 96 l, lt-ltb w 99 u) (ap To (stands-start n few plan t s (height (t ∷ s) - 1) h (omega (arith, height-parts t s))))
+    next-any w l u = rw (some_end, le-ltb w 96 l, lt-ltb w 99 u) (ap Some (stands-start n few plan t s (height (t ∷ s) - 1) h (omega (arith, height-parts t s))))
 
-    next-action : (w : ℕ) → 99 ≤ w → w < 101 → next_of n plan w (height (t ∷ s)) ≡ cond (leb (last t) n) (To (height (parts t s))) Fails
+    next-action : (w : ℕ) → 99 ≤ w → w < 101 → next_of n plan w (height (t ∷ s)) ≡ cond (leb (last t) n) (Some (height (parts t s))) None
     unfolding next_of
     next-action w l u = rw (some_end, le-ltb w 96 (omega arith), le-ltb w 99 l, lt-ltb w 101 u, stands-last n few plan t s h, less_one)
 
-    next-encapsulation : next_of n plan 101 (height (t ∷ s)) ≡ cond (ltb (last t) 80) Fails (cond (ltb (last t) 88) (To (height (parts t s))) Fails)
+    next-encapsulation : next_of n plan 101 (height (t ∷ s)) ≡ cond (ltb (last t) 80) None (cond (ltb (last t) 88) (Some (height (parts t s))) None)
     unfolding next_of
     next-encapsulation = rw (some_end, stands-last n few plan t s h, less_one)
 
@@ -134,12 +134,12 @@ unfolding slot_of
 slot_sign w h = rw (lt-ltb w 96 h)
 
 module _ (n : ℕ) (few : n ≤ 31) (plan : List ℕ) where
-  step-to : (w : ℕ) (ws : List ℕ) (e s k : ℕ) (f g : List ℕ) → next_of n plan w e ≡ To s → slot_of w ≡ k
+  step-to : (w : ℕ) (ws : List ℕ) (e s k : ℕ) (f g : List ℕ) → next_of n plan w e ≡ Some s → slot_of w ≡ k
       → match_words n plan (w ∷ ws) e f g ≡ match_words n plan ws s (set f k s) (set g k e)
   unfolding match_words
   step-to w ws e s k f g q r = rw (q, r)
 
-  step-fails : (w : ℕ) (ws : List ℕ) (e : ℕ) (f g : List ℕ) → next_of n plan w e ≡ Fails → (match_words n plan (w ∷ ws) e f g).ok ≡ false
+  step-fails : (w : ℕ) (ws : List ℕ) (e : ℕ) (f g : List ℕ) → next_of n plan w e ≡ None → (match_words n plan (w ∷ ws) e f g).ok ≡ false
   unfolding match_words
   step-fails w ws e f g q = rw q
 
@@ -155,7 +155,7 @@ module _ (n : ℕ) (few : n ≤ 31) (plan : List ℕ) where
       (fits _ _ _ (rel_bind plan L b f g r k t (height s) (height (t ∷ s)) (omega arith) (rw (ne_eqb k 5 (λ e. omega arith)) (part-term n few plan t s h)) (fine_term k l t)))
 
   -- a word that is not the pattern's
-  other : (w : ℕ) (t : Term) (s : List Term) → Stands n plan (t ∷ s) → w < 96 → (last t ≡ w → ⊥) → next_of n plan w (height (t ∷ s)) ≡ Fails
+  other : (w : ℕ) (t : Term) (s : List Term) → Stands n plan (t ∷ s) → w < 96 → (last t ≡ w → ⊥) → next_of n plan w (height (t ∷ s)) ≡ None
   other w t s h l d = next-sign n few plan t s h w l ∙ rw (ne_eqb (last t) w d)
 
   fits-action : (k : ℕ) → 3 ≤ k → k < 5 → Fits (any_action k)

@@ -25,7 +25,9 @@ use Rattle.laws.proofs.Backward.{at_last, not_last}
 use Rattle.rewritings.specs.Roots.{law_term}
 use Rattle.matching.specs.Start.{Ready, RightStarts}
 use Rattle.matching.specs.Right.{spelled_law, law_size, Reaches}
+use Rattle.matching.specs.declared.Letters.{Letters}
 use Rattle.matching.specs.Tried.{Tried, fails, fits, gives}
+use Rattle.std.specs.Prelude.{Option as Maybe, Some, None}
 use Rattle.matching.proofs.Sides.{spelled_law-length}
 
 -- an accepted plan whose starts are known is one that laws can be tried on
@@ -54,26 +56,36 @@ differ_length v w h = go (same_bytes v w) refl
     go true q = absurd (h (ap length (same_list v w q)))
     go false q = refl
 
-module _ (t : Tables) (k : ℕ) (plan f g there : List ℕ) where
+-- a law that fits has letters that reach over the plan's words
+pub reaches_of : {t : Tables} {k : ℕ} {plan : List ℕ} {o : Option Term} {m : Maybe Letters} (l : Letters) → Tried t k plan o m → m ≡ Some l → Reaches plan l.from l.to
+reaches_of l fails e = cc
+reaches_of l (fits v l' r s) e = let same : l' ≡ l = cc in rw (← same) r
+
+module _ (t : Tables) (k : ℕ) (plan there : List ℕ) where
   -- the law does not fit
-  pub gives-fails : {o : Option Term} {b : Bool} → Tried t k plan f g o b → not b ≡ true → false ≡ gives o there
+  pub gives-fails : {o : Option Term} {r : Maybe Letters} → Tried t k plan o r → r ≡ None → false ≡ gives o there
   gives-fails fails e = refl
-  gives-fails (fits v s) e = let q : ◌≡◌ {A = ℕ} 0 1 = cc in absurd (omega (arith, q))
+  gives-fails (fits v l r s) e = cc
 
   -- its right side has another length
-  pub gives_other : {o : Option Term} {b : Bool} → Tried t k plan f g o b → not b ≡ false → Reaches plan f g → (law_size k f g ≡ length there → ⊥) → false ≡ gives o there
-  gives_other fails e r h = refl
-  gives_other (fits v s) e r h =
-      sym (differ_length (words v) there (λ q. h (sym (spelled_law-length t k plan f g r) ∙ (ap length s ∙ q))))
+  pub gives_other : {o : Option Term} {m : Maybe Letters} (l : Letters) → Tried t k plan o m → m ≡ Some l → (law_size k l.from l.to ≡ length there → ⊥)
+      → false ≡ gives o there
+  gives_other l fails e h = refl
+  gives_other l (fits v l' r s) e h =
+      let same : l' ≡ l = cc in
+      sym (differ_length (words v) there (λ q. h (rw (← same) (sym (spelled_law-length t k plan l'.from l'.to r) ∙ (ap length s ∙ q)))))
 
   -- its right side is written out and compared
-  pub gives-compared : {o : Option Term} {b : Bool} → Tried t k plan f g o b → not b ≡ false → Reaches plan f g → (side side' : List ℕ) (size : ℕ) (r : Bool)
-      → side' ≡ overwrite side 0 (spelled_law t k plan f g) → size ≡ law_size k f g → r ≡ same_bytes (take size side') there → r ≡ gives o there
-  gives-compared fails e q side side' size r i j h = let q : ◌≡◌ {A = ℕ} 0 1 = cc in absurd (omega (arith, q))
-  gives-compared (fits v s) e q side side' size r i j h =
-      let long : 0 + length (spelled_law t k plan f g) ≡ size = omega (arith, spelled_law-length t k plan f g q) in
-      let taken : take size side' ≡ words v = rw (i, ← long) (take-overwrite side 0 (spelled_law t k plan f g) (omega arith)) ∙ s in
-      h ∙ ap (λ (l : List ℕ). same_bytes l there) taken
+  pub gives-compared : {o : Option Term} {m : Maybe Letters} (l : Letters) → Tried t k plan o m → m ≡ Some l → (side side' : List ℕ) (size : ℕ) (r : Bool)
+      → side' ≡ overwrite side 0 (spelled_law t k plan l.from l.to) → size ≡ law_size k l.from l.to → r ≡ same_bytes (take size side') there → r ≡ gives o there
+  gives-compared l fails e side side' size r i j h = cc
+  gives-compared l (fits v l' q s) e side side' size r i j h =
+      let same : l' ≡ l = cc in
+      let q' : Reaches plan l.from l.to = rw (← same) q in
+      let s' : spelled_law t k plan l.from l.to ≡ words v = rw (← same) s in
+      let long : 0 + length (spelled_law t k plan l.from l.to) ≡ size = omega (arith, spelled_law-length t k plan l.from l.to q') in
+      let taken : take size side' ≡ words v = rw (i, ← long) (take-overwrite side 0 (spelled_law t k plan l.from l.to) (omega arith)) ∙ s' in
+      h ∙ ap (λ (w : List ℕ). same_bytes w there) taken
 
 -- A step backwards with an accepted left side: it is made exactly if the law gives the subplan at the place.
 module _ (t : Tables) (ok : Proper t) (k p : ℕ) (carried w : List ℕ) (pass : words_refusal (actions t) carried ≡ none) where

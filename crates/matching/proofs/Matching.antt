@@ -10,36 +10,37 @@ use lib.Seq.{drop-cons, get_or-set_same, get_or-set_other}
 use lib.Dec.{eqb, leb, ltb}
 use borrow.Author.Tests.{ltb-true, eqb-true, eqb-false}
 use Rattle.plans.specs.Start.{start_of}
-use Rattle.matching.specs.Left.{next_of, slot_of, match_words, on_move}
+use Rattle.matching.specs.declared.Letters.{Letters}
+use Rattle.matching.specs.Left.{next_of, slot_of, match_words, on_move, Matched, MatchFound, missed, found}
 use Rattle.matching.specs.Right.{Reaches}
-use Rattle.matching.specs.declared.left.Moved.{Moved}
-use Rattle.matching.specs.declared.left.Moved.TheVariants.{To, Fails}
+use Rattle.std.specs.Prelude.{Option as Maybe}
+use Rattle.std.specs.Prelude.{Some, None}
 use Rattle.plans.proofs.Start.{start-below}
 
-data Below (e : ℕ) : Moved → Type 0 where
-  stays : {s : ℕ} → s ≤ e → Below e (To s)
-  fails : Below e Fails
+data Below (e : ℕ) : Maybe ℕ → Type 0 where
+  stays : {s : ℕ} → s ≤ e → Below e (Some s)
+  fails : Below e None
 
-either : {e : ℕ} (b : Bool) {m m' : Moved} → Below e m → Below e m' → Below e (cond b m m')
+either : {e : ℕ} (b : Bool) {m m' : Maybe ℕ} → Below e m → Below e m' → Below e (cond b m m')
 either true h h' = h
 either false h h' = h'
 
 next-within : (n : ℕ) (plan : List ℕ) (w e : ℕ) → Below e (next_of n plan w e)
 unfolding next_of
 next-within n plan w e =
-    let h : Below e (To (e - 1)) = stays {s = e - 1} (omega arith) in
-    let s : Below e (To (start_of n plan (e - 1))) = stays {s = start_of n plan (e - 1)} (omega (arith, start-below n plan (e - 1))) in
+    let h : Below e (Some (e - 1)) = stays {s = e - 1} (omega arith) in
+    let s : Below e (Some (start_of n plan (e - 1))) = stays {s = start_of n plan (e - 1)} (omega (arith, start-below n plan (e - 1))) in
     either (eqb e 0) fails
     (either (ltb w 96) (either (eqb (get_or plan (e - 1) 0) w) h fails)
     (either (ltb w 99) s
     (either (ltb w 101) (either (leb (get_or plan (e - 1) 0) n) h fails)
     (either (ltb (get_or plan (e - 1) 0) 80) fails (either (ltb (get_or plan (e - 1) 0) 88) h fails)))))
 
-below-to : {e s : ℕ} {m : Moved} → Below e m → m ≡ To s → s ≤ e
+below-to : {e s : ℕ} {m : Maybe ℕ} → Below e m → m ≡ Some s → s ≤ e
 below-to {s} (stays {s = s'} h) q = let r : s' ≡ s = cc in omega arith
 below-to fails q = let r : ◌≡◌ {A = ℕ} 0 1 = cc in absurd (omega arith)
 
-pub next-below : (n : ℕ) (plan : List ℕ) (w e s : ℕ) → next_of n plan w e ≡ To s → s ≤ e
+pub next-below : (n : ℕ) (plan : List ℕ) (w e s : ℕ) → next_of n plan w e ≡ Some s → s ≤ e
 next-below n plan w e s q = below-to (next-within n plan w e) q
 
 pub slot_small : (w : ℕ) → slot_of w < 7
@@ -52,12 +53,12 @@ slot_small w = go (ltb w 96) (ltb w 102) refl
     go false false q = omega arith
 
 module _ (n : ℕ) (plan pattern : List ℕ) (i e : ℕ) (f g : List ℕ) where
-  pub match_on : (s : ℕ) → i < length pattern → next_of n plan (get_or pattern i 0) e ≡ To s
+  pub match_on : (s : ℕ) → i < length pattern → next_of n plan (get_or pattern i 0) e ≡ Some s
       → match_words n plan (drop i pattern) e f g ≡ match_words n plan (drop (i + 1) pattern) s (set f (slot_of (get_or pattern i 0)) s) (set g (slot_of (get_or pattern i 0)) e)
   unfolding match_words
   match_on s h q = rw (add-one i, drop-cons pattern i 0, q)
 
-  pub match_stops : i < length pattern → next_of n plan (get_or pattern i 0) e ≡ Fails
+  pub match_stops : i < length pattern → next_of n plan (get_or pattern i 0) e ≡ None
       → match_words n plan (drop i pattern) e f g ≡ record { ok = false; from = f; to = g }
   unfolding match_words
   match_stops h q = rw (drop-cons pattern i 0, q)
@@ -92,9 +93,18 @@ module _ (plan : List ℕ) where
   match_reaches n [] e f g l r = r
   match_reaches n (w ∷ ws) e f g l r = go (next_of n plan w e) refl (λ s h. match_reaches n ws s (set f (slot_of w) s) (set g (slot_of w) e) (omega arith) (reaches_set f g (slot_of w) s e r h l))
     where
-      go : (m : Moved) → next_of n plan w e ≡ m
+      go : (m : Maybe ℕ) → next_of n plan w e ≡ m
           → ((s : ℕ) → s ≤ e → Reaches plan (match_words n plan ws s (set f (slot_of w) s) (set g (slot_of w) e)).from (match_words n plan ws s (set f (slot_of w) s) (set g (slot_of w) e)).to)
           → Reaches plan (on_move m (record { ok = false; from = f; to = g }) (λ s. match_words n plan ws s (set f (slot_of w) s) (set g (slot_of w) e))).from
           (on_move m (record { ok = false; from = f; to = g }) (λ s. match_words n plan ws s (set f (slot_of w) s) (set g (slot_of w) e))).to
-      go (To s) q k = k s (next-below n plan w e s q)
-      go Fails q k = r
+      go (Some s) q k = k s (next-below n plan w e s q)
+      go None q k = r
+
+-- what matching answers, read off
+pub missed_of : {m : Matched} {r : Maybe Letters} → MatchFound m r → r ≡ None → m.ok ≡ false
+missed_of (missed e) q = e
+missed_of (found l e) q = cc
+
+pub found_of : {m : Matched} {r : Maybe Letters} (l : Letters) → MatchFound m r → r ≡ Some l → m ≡ record { ok = true; from = l.from; to = l.to }
+found_of l (missed e) q = cc
+found_of l (found l' e) q = let same : l' ≡ l = cc in rw (← same) e

@@ -13,17 +13,20 @@ use Rattle.tables.specs.Tables.{Tables, communication, below, blocked}
 use Rattle.plans.specs.Term.{Term, words, and_then}
 use Rattle.laws.specs.Laws.{laws, law_at, Condition, always, same_words, a_in_set, a_not_in_set, a_below_b, a_not_below_b, Binding, unbound, number, holds, build, rewrite, highest_law}
 use Rattle.matching.specs.Start.{Ready}
-use Rattle.matching.specs.Left.{back, match_words, Matched}
+use Rattle.matching.specs.Left.{back, match_words, no_places, Matched}
 use Rattle.plans.specs.Place.{part}
 use Rattle.matching.specs.Check.{letter, check_at, word_from, set_from, holds_of}
 use Rattle.matching.specs.Right.{spelled_law, Reaches}
 use Rattle.rewritings.specs.Roots.{law_term}
-use Rattle.matching.specs.Tried.{Tried, fails, fits as fits-law}
+use Rattle.matching.specs.declared.Letters.{Letters}
+use Rattle.matching.specs.Tried.{Tried, fails as law_fails, fits as law_fits}
+use Rattle.std.specs.Prelude.{Some, None}
 use Rattle.matching.specs.declared.condition.Check.{Check}
 use Rattle.matching.specs.declared.condition.Check.TheVariants.{Always, Same, InSet, NotInSet, Below, NotBelow}
 use Rattle.laws.proofs.Tests.{and_left, and_right, passes, passed}
 use Rattle.plans.proofs.Standing.{height}
 use Rattle.matching.proofs.Stack.{last_of}
+use Rattle.matching.proofs.Sides.{reaches_zeros}
 use Rattle.matching.proofs.Fitting.{Rel, letters, plain, Fitted, no_fit, fits, fitted}
 use Rattle.matching.proofs.Matching.{match_reaches}
 use Rattle.matching.proofs.Building.{covered, built}
@@ -167,40 +170,62 @@ module _ (k : ℕ) (low : 1 ≤ k) (high : k ≤ highest_law) where
   unfolding well L
   is_check = same_check _ _ (and_right (needs_letters (law_at k).when L) _ (and_right (covered (law_at k).rhs L) _ (and_right (plain (law_at k).lhs) _ all)))
 
+  -- the law tried with letters from f to g: whether it holds
+  data Held (t : Tables) (plan f g : List ℕ) : Option Term → Bool → Type 0 where
+    not_held : Held t plan f g none false
+    held : (v : Term) → spelled_law t k plan f g ≡ words v → Held t plan f g (some v) true
+
   -- the law tried, by what matching came to
   abbrev Guarded : Tables → List ℕ → Option Term → Matched → Type 0
-  Guarded t plan o m = Tried t k plan m.from m.to o (m.ok && holds_of (check_at k) t plan m.from m.to)
+  Guarded t plan o m = Held t plan m.from m.to o (m.ok && holds_of (check_at k) t plan m.from m.to)
+
+  none_held : {t : Tables} {plan f g : List ℕ} {o : Option Term} {b : Bool} → Held t plan f g o b → b ≡ false → Tried t k plan o None
+  none_held not_held e = law_fails
+  none_held (held v s) e = let q : ◌≡◌ {A = ℕ} 0 1 = cc in absurd (omega (arith, q))
+
+  one_held : {t : Tables} {plan : List ℕ} {o : Option Term} {b : Bool} (l : Letters) → Reaches plan l.from l.to → Held t plan l.from l.to o b → b ≡ true
+      → Tried t k plan o (Some l)
+  one_held l r not_held e = let q : ◌≡◌ {A = ℕ} 0 1 = cc in absurd (omega (arith, q))
+  one_held l r (held v s) e = law_fits v l r s
 
   after : (t : Tables) (n : ℕ) (plan : List ℕ) (s : List Term) {o : Option Binding} {m : Matched} → Fitted n plan s [] L o m
       → Guarded t plan (and_then o (λ b. cond (holds t (law_at k).when b) (some (build t b (law_at k).rhs)) none)) m
   unfolding match_words spelled_law
-  after t n plan s (no_fit m e) = rw e fails
+  after t n plan s (no_fit m e) = rw e not_held
   after t n plan s (fits b f g r) = go (holds t (law_at k).when b) (rw is_check (holds_same t plan L b f g r (law_at k).when is_needed))
     where
       go : (v : Bool) → holds_of (check_at k) t plan f g ≡ v → Guarded t plan (cond v (some (build t b (law_at k).rhs)) none) (record { ok = true; from = f; to = g })
-      go true e = rw e (fits-law _ (built t plan L b f g r _ (entry_is t plan L b f g r) (law_at k).rhs is_covered))
-      go false e = rw e fails
+      go true e = rw e (held _ (built t plan L b f g r _ (entry_is t plan L b f g r) (law_at k).rhs is_covered))
+      go false e = rw e not_held
 
-  -- the law tried at the last word, with v what matching says, and the letters from f to g afterwards
-  module _ (t : Tables) {n : ℕ} {plan starts : List ℕ} (ready : Ready n plan starts) {f₀ g₀ : List ℕ} (reach : Reaches plan f₀ g₀) {v : Bool} {f g : List ℕ}
-      (e : record { ok = v; from = f; to = g } ≡ match_words n plan (back (law_at k).lhs) (length plan) f₀ g₀) where
-    outcome : Tried t k plan f g (law_term t n k plan) (v && holds_of (check_at k) t plan f g)
+  -- the law tried at the last word, by what matching its left side comes to
+  module _ (t : Tables) {n : ℕ} {plan starts : List ℕ} (ready : Ready n plan starts) where
+    abbrev matched : Matched
+    matched = match_words n plan (back (law_at k).lhs) (length plan) no_places no_places
+
+    outcome : Guarded t plan (law_term t n k plan) matched
     unfolding law_term rewrite L
     outcome =
         let d = last_of n plan starts ready in
-        let q : match_words n plan (back (law_at k).lhs ++ []) (height (d.term ∷ d.below)) f₀ g₀ ≡ record { ok = v; from = f; to = g } =
-        rw (append-nil (back (law_at k).lhs), d.whole) (sym e) in
+        let q : match_words n plan (back (law_at k).lhs ++ []) (height (d.term ∷ d.below)) no_places no_places ≡ matched =
+        rw (append-nil (back (law_at k).lhs), d.whole) in
         rw d.is_sub
         (subst (Guarded t plan (rewrite t (law_at k) d.term)) q
-        (after t n plan d.below (fitted n ready.few plan (law_at k).lhs is_plain d.term d.below [] unbound f₀ g₀ nothing d.stands (start_rel plan f₀ g₀ reach.from_long reach.to_long))))
+        (after t n plan d.below (fitted n ready.few plan (law_at k).lhs is_plain d.term d.below [] unbound no_places no_places nothing d.stands (start_rel plan no_places no_places refl refl))))
 
-    pub tried_held : {r : Bool} → v ≡ true → r ≡ holds_of (check_at k) t plan f g → Tried t k plan f g (law_term t n k plan) r
-    tried_held h i = rw i (rw h at outcome)
+    pub tried_missed : matched.ok ≡ false → Tried t k plan (law_term t n k plan) None
+    tried_missed h = none_held outcome (rw h)
 
-    pub tried_missed : v ≡ false → Tried t k plan f g (law_term t n k plan) false
-    tried_missed h = rw h at outcome
+    module _ (l : Letters) (e : matched ≡ record { ok = true; from = l.from; to = l.to }) where
+      there : Held t plan l.from l.to (law_term t n k plan) (holds_of (check_at k) t plan l.from l.to)
+      there = subst (Guarded t plan (law_term t n k plan)) e outcome
 
-pub reaches_after : (n k : ℕ) {plan f₀ g₀ : List ℕ} → Reaches plan f₀ g₀ → {v : Bool} {f g : List ℕ}
-    → record { ok = v; from = f; to = g } ≡ match_words n plan (back (law_at k).lhs) (length plan) f₀ g₀ → Reaches plan f g
-reaches_after n k {plan} {f₀} {g₀} reach e =
-    subst (λ (m : Matched). Reaches plan m.from m.to) (sym e) (match_reaches plan n (back (law_at k).lhs) (length plan) f₀ g₀ (omega arith) reach)
+      pub reached : Reaches plan l.from l.to
+      reached = subst (λ (m : Matched). Reaches plan m.from m.to) e
+          (match_reaches plan n (back (law_at k).lhs) (length plan) no_places no_places (omega arith) (reaches_zeros plan))
+
+      pub tried_held : true ≡ holds_of (check_at k) t plan l.from l.to → Tried t k plan (law_term t n k plan) (Some l)
+      tried_held h = one_held l reached there (sym h)
+
+      pub tried_unheld : false ≡ holds_of (check_at k) t plan l.from l.to → Tried t k plan (law_term t n k plan) None
+      tried_unheld h = none_held there (sym h)

@@ -6,3 +6,4 @@ pub mod Starting
 pub mod Ends
 pub mod Counts
 pub mod Appearances
+pub mod Judged

@@ -11,14 +11,15 @@ use lib.Dec.{eqb, ltb}
 use borrow.Author.Tests.{ne_eqb, le-ltb, ltb-false}
 use Rattle.refusals.specs.declared.Place.{Place}
 use Rattle.refusals.specs.declared.Place.TheVariants.{Nowhere, Byte}
-use Rattle.refusals.specs.Refusal.{refuse}
+use Rattle.refusals.specs.Refusal.{number_of, refuse}
 use Rattle.refusals.proofs.Judging.{none_of_both}
 use Rattle.tables.specs.Tables.{Tables, actions}
 use Rattle.tables.specs.Lawful.{Lawful}
 use Rattle.tables.specs.Judging.{table_refusal}
 use Rattle.tables.proofs.Lawful.{accepted_iff_lawful}
-use Rattle.plans.specs.declared.Turn.{Turn}
-use Rattle.plans.specs.declared.Turn.TheVariants.{Depth, Stop}
+use Rattle.std.specs.Prelude.{Result, Ok, Err}
+use Rattle.refusals.specs.declared.Reason.{Reason}
+use Rattle.refusals.specs.declared.Reason.TheVariants.{UnknownWord, TooFewOperands}
 use Rattle.plans.specs.declared.Word.{Word}
 use Rattle.plans.specs.Word.{binary_word, unary_word, operands_of}
 use Rattle.plans.specs.Term.{Term, act, un, bin, words, Over, push, read, and_then, sole, term_of}
@@ -32,25 +33,25 @@ use Rattle.plans.proofs.Basic.{basic?_iff}
 use Rattle.areas.specs.Area.{most_words}
 
 -- the depth is the number of terms that wait
-data Pushed : Option (List Term) → Turn → Type 0 where
-  pushed : (s : List Term) (d : ℕ) → d ≡ length s → Pushed (some s) (Depth d)
-  short : (k : ℕ) → Pushed none (Stop k)
+data Pushed : Option (List Term) → Result ℕ Reason → Type 0 where
+  pushed : (s : List Term) (d : ℕ) → d ≡ length s → Pushed (some s) (Ok d)
+  short : (r : Reason) → Pushed none (Err r)
 
 -- a word that takes k operands, read where d terms wait
-abbrev taken : ℕ → ℕ → Turn
-taken k d = cond (ltb d k) (Stop 13) (Depth (suc (d - k)))
+abbrev taken : ℕ → ℕ → Result ℕ Reason
+taken k d = cond (ltb d k) (Err TooFewOperands) (Ok (suc (d - k)))
 
-turned : (n w : ℕ) → n ≤ 31 → {k : Word} (s : List Term) → Spelled n w k → Pushed (push k s) (cond (no_word? k) (Stop 12) (taken (operands_of w) (length s)))
+turned : (n w : ℕ) → n ≤ 31 → {k : Word} (s : List Term) → Spelled n w k → Pushed (push k s) (cond (no_word? k) (Err UnknownWord) (taken (operands_of w) (length s)))
 unfolding push
 turned n w few s (is_action h) = rw (operands_action w (omega arith), le-ltb (length s) 0 (omega arith)) (pushed (act w ∷ s) (suc (length s - 0)) (omega arith))
-turned n w few [] (is_one o i k) = rw (← i, operands_unary o k) (short 13)
+turned n w few [] (is_one o i k) = rw (← i, operands_unary o k) (short TooFewOperands)
 turned n w few (x ∷ s) (is_one o i k) =
     rw (← i, operands_unary o k, le-ltb (suc (length s)) 1 (omega arith)) (pushed (un o x ∷ s) (suc (suc (length s) - 1)) (omega arith))
-turned n w few [] (is_two o i) = rw (← i, operands_binary o) (short 13)
-turned n w few (y ∷ []) (is_two o i) = rw (← i, operands_binary o) (short 13)
+turned n w few [] (is_two o i) = rw (← i, operands_binary o) (short TooFewOperands)
+turned n w few (y ∷ []) (is_two o i) = rw (← i, operands_binary o) (short TooFewOperands)
 turned n w few (y ∷ (x ∷ s)) (is_two o i) =
     rw (← i, operands_binary o, le-ltb (suc (suc (length s))) 2 (omega arith)) (pushed (bin o x y ∷ s) (suc (suc (suc (length s)) - 2)) (omega arith))
-turned n w few s is_none = short 12
+turned n w few s is_none = short UnknownWord
 
 refused : (k : ℕ) (p : Place) → refuse k p ≡ none → ⊥
 refused k p e = let q : ◌≡◌ {A = ℕ} 0 1 = cc in omega arith
@@ -66,12 +67,12 @@ module _ (n : ℕ) (few : n ≤ 31) where
   accepted-reads p [] (u ∷ (v ∷ s)) e = absurd (refused 14 Nowhere (rw (ne_eqb (suc (suc (length s))) 1 (λ q. omega arith)) at e))
   accepted-reads p (w ∷ ws) s e = go (turned n w few s (spelled n w)) (λ d s' q e'. accepted-reads (suc p) ws s' (rw q at e')) e
     where
-      go : {o : Option (List Term)} {t : Turn} → Pushed o t
+      go : {o : Option (List Term)} {t : Result ℕ Reason} → Pushed o t
           → ((d : ℕ) (s' : List Term) → d ≡ length s' → refusal_from n (suc p) d ws ≡ none → (u : Term) × (and_then (read n ws s') sole ≡ some u))
-          → on_turn t (λ d. refusal_from n (suc p) d ws) (λ k. refuse k (Byte p)) ≡ none
+          → on_turn t (λ d. refusal_from n (suc p) d ws) (λ r. refuse (number_of r) (Byte p)) ≡ none
           → (u : Term) × (and_then (and_then o (λ s'. read n ws s')) sole ≡ some u)
       go (pushed s' d q) f e = f d s' q e
-      go (short k) f e = absurd (refused k (Byte p) e)
+      go (short r) f e = absurd (refused (number_of r) (Byte p) e)
 
   reads-accepted : (p : ℕ) (ws : List ℕ) (s : List Term) → Reads ws s → refusal_from n p (length s) ws ≡ none
   unfolding refusal_from read
@@ -80,10 +81,10 @@ module _ (n : ℕ) (few : n ≤ 31) where
   reads-accepted p [] (u ∷ (v ∷ s)) r = never r.1
   reads-accepted p (w ∷ ws) s r = go (turned n w few s (spelled n w)) (λ d s' q r'. rw q (reads-accepted (suc p) ws s' r')) r
     where
-      go : {o : Option (List Term)} {t : Turn} → Pushed o t
+      go : {o : Option (List Term)} {t : Result ℕ Reason} → Pushed o t
           → ((d : ℕ) (s' : List Term) → d ≡ length s' → ((u : Term) × (and_then (read n ws s') sole ≡ some u)) → refusal_from n (suc p) d ws ≡ none)
           → ((u : Term) × (and_then (and_then o (λ s'. read n ws s')) sole ≡ some u))
-          → on_turn t (λ d. refusal_from n (suc p) d ws) (λ k. refuse k (Byte p)) ≡ none
+          → on_turn t (λ d. refusal_from n (suc p) d ws) (λ r. refuse (number_of r) (Byte p)) ≡ none
       go (pushed s' d q) f r = f d s' q r
       go (short k) f r = never r.1
 

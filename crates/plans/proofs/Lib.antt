@@ -4,6 +4,7 @@ mod Entries
 mod OperandTable
 pub mod Reading
 pub mod Place
+pub mod Passing
 pub mod Accepted
 pub mod Put
 pub mod Basic

@@ -16,9 +16,6 @@ use Rattle.plans.specs.Term.{SetNumber}
 
 -- tests of ranges
 module _ (low high w : ℕ) where
-  pub under_range : w < low → leb low w && leb w high ≡ false
-  under_range h = rw (lt-leb low w h) refl
-
   pub over_range : high < w → leb low w && leb w high ≡ false
   over_range h = rw (lt-leb w high h) (and-false (leb low w))
 
@@ -55,12 +52,6 @@ unfolding sign_of
 sign_high w h =
     rw (ne_eqb w 64 (λ e. omega arith), ne_eqb w 65 (λ e. omega arith), ne_eqb w 66 (λ e. omega arith), ne_eqb w 67 (λ e. omega arith), ne_eqb w 68 (λ e. omega arith), ne_eqb w 69 (λ e. omega arith)) refl
 
-pub sign_none : (w : ℕ) → (w ≡ 64 → ⊥) → (w ≡ 65 → ⊥) → (w ≡ 66 → ⊥) → (w ≡ 67 → ⊥) → (w ≡ 68 → ⊥) → (w ≡ 69 → ⊥) → (w ≡ 70 → ⊥)
-    → (leb 80 w && leb w 87 ≡ false) → sign_of w ≡ NoWord
-unfolding sign_of
-sign_none w a b c d e f g h =
-    rw (ne_eqb w 64 a, ne_eqb w 65 b, ne_eqb w 66 c, ne_eqb w 67 d, ne_eqb w 68 e, ne_eqb w 69 f, ne_eqb w 70 g, h) refl
-
 sign_unary : (o : Unary) → SetNumber o → sign_of (unary_word o) ≡ One o
 unfolding sign_of unary_word
 sign_unary Priority k = refl
@@ -96,10 +87,6 @@ module _ (w : ℕ) where
   unfolding operands_of
   operands_set h l =
       rw (lt-leb w 31 (omega arith), over_range 64 69 w (omega arith), ne_eqb w 70 (λ e. omega arith), in_range 80 87 w h l) refl
-
-  pub operands_none : 32 ≤ w → (leb 64 w && leb w 69 ≡ false) → (w ≡ 70 → ⊥) → (leb 80 w && leb w 87 ≡ false) → operands_of w ≡ 3
-  unfolding operands_of
-  operands_none h a b c = rw (lt-leb w 31 h, a, ne_eqb w 70 b, c) refl
 
 -- and the operators
 pub operands_unary : (o : Unary) → SetNumber o → operands_of (unary_word o) ≡ 1

@@ -1,4 +1,5 @@
 -- What is claimed of the answer holds of it.
+use Rattle.std.specs.Prelude.{Result, Ok, Err, Some, None, Option as Maybe}
 use Prim.Native.Nat.{ℕ, ◌≤◌, ◌<◌}
 use native.Mathlib.Omega.{arith}
 use mathlib.Core.Path.{◌≡◌, refl, sym, ap, ◌∙◌, subst}
@@ -24,8 +25,6 @@ use Rattle.trees.specs.Meaning.{tree}
 use Rattle.paths.specs.Paths.{Whole, Begins}
 use Rattle.paths.specs.Appearances.{actions_before}
 use Rattle.paths.proofs.Appearances.{path-appears, appears-path, appears_exactly, finishes-before, leads-before}
-use Rattle.precedence.specs.declared.Precedence.{Precedence}
-use Rattle.precedence.specs.declared.Precedence.TheVariants.{Yes, No, Refused}
 use Rattle.precedence.specs.Overtaking.{among?, overtakes?, overtaking}
 use Rattle.precedence.specs.Outcome.{not_a_pair?, precedence_refusal, found_answer, precedence_answer, precedence_report, precedence_reported}
 use Rattle.precedence.specs.Claims.{Among, Precedes, Pair, Answered, NotAnswered, by_plan, not_a_pair, not_basic, Overtaking, PrecedenceClaims}
@@ -34,19 +33,22 @@ use Rattle.precedence.proofs.Sweeping.{overtaking_found}
 use Rattle.precedence.proofs.Outcomes.{pair-said, said-pair, no_pair-said, said_no_pair, refusal_plan, refusal_pair, refusal_not_basic, refusal_none, none_said, answer-refused, answer_found, precedence_numbers}
 
 -- the answers are told apart
-yes_no {ℓ} : {C : Type ℓ} {p : ℕ} → Yes ≡ No p → C
+abbrev Answer : Type 0
+Answer = Result (Maybe ℕ) Refusal
+
+yes_no {ℓ} : {C : Type ℓ} {p : ℕ} → ◌≡◌ {A = Answer} (Ok None) (Ok (Some p)) → C
 yes_no e = let q : ◌≡◌ {A = ℕ} 0 1 = cc in absurd (omega arith)
 
-yes_refused {ℓ} : {C : Type ℓ} {r : Refusal} → Yes ≡ Refused r → C
+yes_refused {ℓ} : {C : Type ℓ} {r : Refusal} → ◌≡◌ {A = Answer} (Ok None) (Err r) → C
 yes_refused e = let q : ◌≡◌ {A = ℕ} 0 1 = cc in absurd (omega arith)
 
-no_refused {ℓ} : {C : Type ℓ} {p : ℕ} {r : Refusal} → No p ≡ Refused r → C
+no_refused {ℓ} : {C : Type ℓ} {p : ℕ} {r : Refusal} → ◌≡◌ {A = Answer} (Ok (Some p)) (Err r) → C
 no_refused e = let q : ◌≡◌ {A = ℕ} 0 1 = cc in absurd (omega arith)
 
-same_place : {p q : ℕ} → No p ≡ No q → p ≡ q
+same_place : {p q : ℕ} → ◌≡◌ {A = Answer} (Ok (Some p)) (Ok (Some q)) → p ≡ q
 same_place e = cc
 
-same_refusal : {r f : Refusal} → Refused r ≡ Refused f → r ≡ f
+same_refusal : {r f : Refusal} → ◌≡◌ {A = Answer} (Err r) (Err f) → r ≡ f
 same_refusal e = cc
 
 -- an action is one of a list, by test and as a relation
@@ -201,10 +203,10 @@ module _ (t : Tables) (plan : List ℕ) (first second : ℕ) where
       never_so true f = absurd (f refl)
       never_so false f = refl
 
-  data Came : Precedence → Type 0 where
-    found_none : precedence_refusal t plan first second ≡ none → overtaking (actions t) plan first second ≡ none → Came Yes
-    found_some : (p : ℕ) → precedence_refusal t plan first second ≡ none → overtaking (actions t) plan first second ≡ some p → Came (No p)
-    refused : (r : Refusal) → precedence_refusal t plan first second ≡ some r → Came (Refused r)
+  data Came : Result (Maybe ℕ) Refusal → Type 0 where
+    found_none : precedence_refusal t plan first second ≡ none → overtaking (actions t) plan first second ≡ none → Came (Ok None)
+    found_some : (p : ℕ) → precedence_refusal t plan first second ≡ none → overtaking (actions t) plan first second ≡ some p → Came (Ok (Some p))
+    refused : (r : Refusal) → precedence_refusal t plan first second ≡ some r → Came (Err r)
 
   came : Came (precedence_answer t plan first second)
   came = go (precedence_refusal t plan first second) refl (overtaking (actions t) plan first second) refl
@@ -215,22 +217,22 @@ module _ (t : Tables) (plan : List ℕ) (first second : ℕ) where
       go none e (some p) d = subst Came (sym (answer_found t plan first second e ∙ ap found_answer d)) (found_some p e d)
 
   -- each answer is given exactly where it was come to
-  yes_iff : {r : Precedence} → Came r → (r ≡ Yes) ↔ ((precedence_refusal t plan first second ≡ none) × (overtaking (actions t) plan first second ≡ none))
+  yes_iff : {r : Result (Maybe ℕ) Refusal} → Came r → (r ≡ Ok None) ↔ ((precedence_refusal t plan first second ≡ none) × (overtaking (actions t) plan first second ≡ none))
   yes_iff (found_none e d) = (λ q. (e, d), λ k. refl)
   yes_iff (found_some p e d) = (λ q. yes_no (sym q), λ k. never (sym k.1 ∙ d))
   yes_iff (refused f e) = (λ q. yes_refused (sym q), λ k. never (sym k.0 ∙ e))
 
-  no_iff : {r : Precedence} → Came r → (p : ℕ) → (r ≡ No p) ↔ ((precedence_refusal t plan first second ≡ none) × (overtaking (actions t) plan first second ≡ some p))
+  no_iff : {r : Result (Maybe ℕ) Refusal} → Came r → (p : ℕ) → (r ≡ Ok (Some p)) ↔ ((precedence_refusal t plan first second ≡ none) × (overtaking (actions t) plan first second ≡ some p))
   no_iff (found_none e d) p = (λ q. yes_no q, λ k. never (sym d ∙ k.1))
-  no_iff (found_some o e d) p = (λ q. (e, d ∙ ap some (same_place q)), λ k. ap No (some-injective _ _ (sym d ∙ k.1)))
+  no_iff (found_some o e d) p = (λ q. (e, d ∙ ap some (same_place q)), λ k. ap (λ (q : ℕ). Ok (Some q)) (some-injective _ _ (sym d ∙ k.1)))
   no_iff (refused f e) p = (λ q. no_refused (sym q), λ k. never (sym k.0 ∙ e))
 
-  refused_iff : {r : Precedence} → Came r → (f : Refusal) → (r ≡ Refused f) ↔ (precedence_refusal t plan first second ≡ some f)
+  refused_iff : {r : Result (Maybe ℕ) Refusal} → Came r → (f : Refusal) → (r ≡ Err f) ↔ (precedence_refusal t plan first second ≡ some f)
   refused_iff (found_none e d) f = (λ q. yes_refused q, λ k. never (sym e ∙ k))
   refused_iff (found_some p e d) f = (λ q. no_refused q, λ k. never (sym e ∙ k))
-  refused_iff (refused g e) f = (λ q. e ∙ ap some (same_refusal q), λ k. ap Refused (some-injective _ _ (sym e ∙ k)))
+  refused_iff (refused g e) f = (λ q. e ∙ ap some (same_refusal q), λ k. ap Err (some-injective _ _ (sym e ∙ k)))
 
-  pub precedence_claims : {r : Precedence} → r ≡ precedence_answer t plan first second → PrecedenceClaims t plan first second r
+  pub precedence_claims : {r : Result (Maybe ℕ) Refusal} → r ≡ precedence_answer t plan first second → PrecedenceClaims t plan first second r
   precedence_claims {r} e =
       record {
         yes_exactly = (to_whole, from-whole);
@@ -249,16 +251,16 @@ module _ (t : Tables) (plan : List ℕ) (first second : ℕ) where
       c : Came r
       c = subst Came (sym e) came
 
-      to_whole : r ≡ Yes → (a : Answered t plan first second) × Precedes (Whole (tree t a.basic.plan.term)) first second
+      to_whole : r ≡ Ok None → (a : Answered t plan first second) × Precedes (Whole (tree t a.basic.plan.term)) first second
       to_whole q = let k = (yes_iff c).0 q in let a = answered-said k.0 in (a, none_precedes t plan first second a.pair a.basic k.1)
 
-      from-whole : (a : Answered t plan first second) × Precedes (Whole (tree t a.basic.plan.term)) first second → r ≡ Yes
+      from-whole : (a : Answered t plan first second) × Precedes (Whole (tree t a.basic.plan.term)) first second → r ≡ Ok None
       from-whole (a, f) = (yes_iff c).1 (said-answered a, precedes_none t plan first second a.pair a.basic f)
 
-      to-place : (p : ℕ) → r ≡ No p → (a : Answered t plan first second) × Overtaking plan a.basic.plan.term first second p
+      to-place : (p : ℕ) → r ≡ Ok (Some p) → (a : Answered t plan first second) × Overtaking plan a.basic.plan.term first second p
       to-place p q = let k = (no_iff c p).0 q in let a = answered-said k.0 in (a, some_overtaking t plan first second a.pair a.basic p k.1)
 
-      shown : (p : ℕ) → r ≡ No p → (b : BasicPlan t plan) → Begins (tree t b.plan.term) (actions_before 0 b.plan.term p ++ (second ∷ []))
+      shown : (p : ℕ) → r ≡ Ok (Some p) → (b : BasicPlan t plan) → Begins (tree t b.plan.term) (actions_before 0 b.plan.term p ++ (second ∷ []))
       shown p q b =
           let k = (no_iff c p).0 q in
           let pair = (answered-said k.0).pair in
@@ -272,6 +274,6 @@ module _ (t : Tables) (plan : List ℕ) (first second : ℕ) where
           appears_exactly t (actions t) (few_of b) plan b.plan.term b.basic (accepted-reads_as t plan b.plan) ms a live (omega arith)
 
   -- all that the call promises
-  pub precedence_said : {r : Precedence} → r ≡ precedence_answer t plan first second
+  pub precedence_said : {r : Result (Maybe ℕ) Refusal} → r ≡ precedence_answer t plan first second
       → (r ≡ precedence_answer t plan first second) × ((precedence_report r ≡ precedence_reported t plan first second) × PrecedenceClaims t plan first second r)
   precedence_said e = (e, (ap precedence_report e ∙ precedence_numbers t plan first second, precedence_claims e))

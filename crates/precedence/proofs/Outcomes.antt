@@ -1,31 +1,27 @@
 -- What the call answers, case by case.
-use Prim.Native.Nat.{ℕ, ◌≤◌, ◌<◌}
-use native.Mathlib.Omega.{arith}
+use Rattle.std.specs.Prelude.{Ok, Err, None, ⊤}
+use Prim.Native.Nat.{ℕ, ◌≤◌}
 use mathlib.Core.Path.{◌≡◌, refl, sym, ap, ◌∙◌}
 use mathlib.Core.Bool.{Bool, true, false, not, ◌||◌, false≢true}
 use mathlib.Core.List.{List}
 use mathlib.Core.Option.{Option, none, some}
 use lib.Dec.{eqb}
-use lib.ListN.{length}
 use borrow.Author.Tests.{eqb-false, ne_eqb}
 use Rattle.refusals.specs.declared.Place.TheVariants.{Nowhere}
 use Rattle.refusals.specs.declared.Refusal.{Refusal}
-use Rattle.refusals.specs.Refusal.{refuse, refuse_if, or_else, reported}
-use Rattle.refusals.proofs.Judging.{none_of_both}
+use Rattle.refusals.specs.Refusal.{refuse, refuse_if, or_else, judged, reported}
+use Rattle.refusals.proofs.Judging.{accepted_none, refused_some, none_of_both}
 use Rattle.tables.specs.Tables.{Tables, actions, outside?}
 use Rattle.tables.proofs.Actions.{not_outside, within}
 use Rattle.plans.specs.Judging.{plan_refusal, words_refusal}
 use Rattle.plans.specs.Basic.{basic_words?}
-use Rattle.plans.specs.Accepted.{BasicPlan}
 use Rattle.plans.proofs.Options.{never}
 use Rattle.plans.proofs.Accepted.{plan-accepted_iff, few_actions, accepted-length, accepted-reads_as, basic_plan}
-use Rattle.precedence.specs.declared.Precedence.TheVariants.{Yes, No, Refused}
 use Rattle.precedence.specs.Overtaking.{overtaking}
 use Rattle.precedence.specs.Outcome.{not_a_pair?, precedence_refusal, found_answer, unless_refused, precedence_answer, precedence_report, found_values, precedence_reported}
 use Rattle.precedence.specs.Pass.{passed}
 use Rattle.precedence.specs.Claims.{Pair}
-use Rattle.precedence.proofs.Least.{Found, at_place, nowhere}
-use Rattle.precedence.proofs.Sweeping.{or_at, passed_finds, overtaking_found}
+use Rattle.precedence.proofs.Sweeping.{or_at, passed_finds}
 
 -- the tests of the two actions
 module _ (t : Tables) (first second : ℕ) where
@@ -53,10 +49,10 @@ module _ (t : Tables) (first second : ℕ) where
       go true e = refl
       go false e = absurd (f (pair-said e))
 
--- what was found, as the code holds it: a place of the plan, or the plan's length
-by_place : (at k : ℕ) {f : ℕ → Bool} {o : Option ℕ} → Found f 0 k o → at ≡ or_at o k → ((at < k) → No at ≡ found_answer o) × ((k ≤ at) → Yes ≡ found_answer o)
-by_place at k (at_place p l h d m) e = (λ i. ap No e, λ i. absurd (omega arith))
-by_place at k (nowhere m) e = (λ i. absurd (omega arith), λ i. refl)
+-- what was found, as the code holds it
+found-or_at : (o : Option ℕ) → found_answer o ≡ Ok (or_at o None)
+found-or_at none = refl
+found-or_at (some p) = refl
 
 -- the chain of refusals
 module _ (t : Tables) (plan : List ℕ) (first second : ℕ) where
@@ -89,7 +85,7 @@ module _ (t : Tables) (plan : List ℕ) (first second : ℕ) where
       go false true e = (refl, refl)
       go false false e = never (sym e)
 
-  pub answer-refused : (r : Refusal) → precedence_refusal t plan first second ≡ some r → precedence_answer t plan first second ≡ Refused r
+  pub answer-refused : (r : Refusal) → precedence_refusal t plan first second ≡ some r → precedence_answer t plan first second ≡ Err r
   unfolding precedence_answer
   answer-refused r e = rw e refl
 
@@ -103,26 +99,32 @@ module _ (t : Tables) (plan : List ℕ) (first second : ℕ) where
       let k = none_said e in
       let a = (plan-accepted_iff t plan).0 k.0 in (few_actions t a.0, a.1, (pair-said t first second k.1).second_inside.1)
 
-  -- and what it finds
-  module _ (e : precedence_refusal t plan first second ≡ none) (at : ℕ) (d : at ≡ passed (actions t) plan first second) where
-    basic : BasicPlan t plan
-    basic = let k = none_said e in (basic_plan t plan).0 (k.0, k.2)
+-- the answer: the first refusal, and else what was found
+pub unless-refused : (o : Option Refusal) (f : Option ℕ) {r : Refusal} → judged o ≡ Err r → unless_refused o f ≡ Err r
+unless-refused o f {r} e = rw (refused_some o r e) refl
 
-    answered : ((at < length plan) → No at ≡ found_answer (overtaking (actions t) plan first second))
-        × ((length plan ≤ at) → Yes ≡ found_answer (overtaking (actions t) plan first second))
-    answered =
-        let k = judged-words e in
-        let u = basic.plan.term in
-        let r = accepted-reads_as t plan basic.plan in
-        let fits = accepted-length (actions t) k.0 plan k.1 in
-        by_place at (length plan) (overtaking_found (actions t) k.0 plan first second k.2 u basic.basic r fits)
-        (d ∙ passed_finds (actions t) k.0 plan first second k.2 u basic.basic r fits)
+pub unless-found : (o : Option Refusal) (f : Option ℕ) {u : ⊤} → judged o ≡ Ok u → unless_refused o f ≡ found_answer f
+unless-found o f e = rw (accepted_none o e) refl
 
-    pub answer_no : at < length plan → No at ≡ precedence_answer t plan first second
-    answer_no l = answered.0 l ∙ sym (answer_found e)
+module _ (t : Tables) (plan : List ℕ) (first second : ℕ) {u : ⊤} (e : judged (precedence_refusal t plan first second) ≡ Ok u) where
+  pub asked-few : actions t ≤ 31
+  asked-few = (judged-words t plan first second (accepted_none _ e)).0
 
-    pub answer_yes : length plan ≤ at → Yes ≡ precedence_answer t plan first second
-    answer_yes l = answered.1 l ∙ sym (answer_found e)
+  pub asked-words : words_refusal (actions t) plan ≡ none
+  asked-words = (judged-words t plan first second (accepted_none _ e)).1
+
+  pub asked-second : second ≤ actions t
+  asked-second = (judged-words t plan first second (accepted_none _ e)).2
+
+  pub found-passed : found_answer (overtaking (actions t) plan first second) ≡ Ok (passed (actions t) plan first second)
+  found-passed =
+      let k = none_said t plan first second (accepted_none _ e) in
+      let b = (basic_plan t plan).0 (k.0, k.2) in
+      let fits = accepted-length (actions t) asked-few plan asked-words in
+      found-or_at (overtaking (actions t) plan first second)
+      ∙ ap Ok (sym (passed_finds (actions t) asked-few plan first second asked-second b.plan.term b.basic (accepted-reads_as t plan b.plan) fits))
+
+pub ruleset answering = (unless-refused, unless-found, asked-few, asked-words, asked-second, found-passed)
 
 -- the answer in numbers
 pub precedence_numbers : (t : Tables) (plan : List ℕ) (first second : ℕ) → precedence_report (precedence_answer t plan first second) ≡ precedence_reported t plan first second

@@ -1,5 +1,5 @@
 -- What is claimed of the answer, said of the paths of the plan's tree and of the words of the plan. (Request 105.)
-use Rattle.std.specs.Prelude.{ℕ, suc, ◌≤◌, ◌<◌, ◌≡◌, ◌↔◌, length, get_or}
+use Rattle.std.specs.Prelude.{ℕ, suc, ◌≤◌, ◌<◌, ◌≡◌, ◌↔◌, length, get_or, Result, Ok, Err, Some, None, Option as Maybe}
 use mathlib.Core.List.{List, [], ◌∷◌, ◌++◌, Memᴰ}
 use Rattle.std.proofs.Math.Option.{some}
 use Rattle.refusals.specs.declared.Place.TheVariants.{Nowhere}
@@ -14,8 +14,6 @@ use Rattle.paths.specs.Paths.{Whole, Begins}
 use Rattle.paths.specs.Subplans.{subplan, Transitions}
 use Rattle.paths.specs.Ends.{PathTo}
 use Rattle.paths.specs.Appearances.{actions_before}
-use Rattle.precedence.specs.declared.Precedence.{Precedence}
-use Rattle.precedence.specs.declared.Precedence.TheVariants.{Yes, No, Refused}
 
 -- an action is one of a list
 abbrev pub Among : ℕ → List ℕ → Type 0
@@ -54,15 +52,15 @@ pub record Overtaking (plan : List ℕ) (u : Term) (first second p : ℕ) : Type
   pub least : (q : ℕ) → q < p → get_or plan q 0 ≡ second → Among first (actions_before 0 u q)
 
 -- Of the answer r.
-pub record PrecedenceClaims (t : Tables) (plan : List ℕ) (first second : ℕ) (r : Precedence) : Type 0 where
+pub record PrecedenceClaims (t : Tables) (plan : List ℕ) (first second : ℕ) (r : Result (Maybe ℕ) Refusal) : Type 0 where
   -- "whether on every path each appearance of the second has the first somewhere before it": paths that finish and paths into a dead stop
-  pub yes_exactly : (r ≡ Yes) ↔ ((a : Answered t plan first second) × Precedes (Whole (tree t a.basic.plan.term)) first second)
+  pub yes_exactly : (r ≡ Ok None) ↔ ((a : Answered t plan first second) × Precedes (Whole (tree t a.basic.plan.term)) first second)
   -- and their beginnings
-  pub beginnings : (r ≡ Yes) ↔ ((a : Answered t plan first second) × Precedes (Begins (tree t a.basic.plan.term)) first second)
-  pub no_exactly : (p : ℕ) → (r ≡ No p) ↔ ((a : Answered t plan first second) × Overtaking plan a.basic.plan.term first second p)
+  pub beginnings : (r ≡ Ok None) ↔ ((a : Answered t plan first second) × Precedes (Begins (tree t a.basic.plan.term)) first second)
+  pub no_exactly : (p : ℕ) → (r ≡ Ok (Some p)) ↔ ((a : Answered t plan first second) × Overtaking plan a.basic.plan.term first second p)
   -- the path to that place can be shown: some path of the tree begins with the actions before it, and then the second action
-  pub shown : (p : ℕ) → r ≡ No p → (b : BasicPlan t plan) → Begins (tree t b.plan.term) (actions_before 0 b.plan.term p ++ (second ∷ []))
-  pub refused_exactly : (f : Refusal) → (r ≡ Refused f) ↔ NotAnswered t plan first second f
+  pub shown : (p : ℕ) → r ≡ Ok (Some p) → (b : BasicPlan t plan) → Begins (tree t b.plan.term) (actions_before 0 b.plan.term p ++ (second ∷ []))
+  pub refused_exactly : (f : Refusal) → (r ≡ Err f) ↔ NotAnswered t plan first second f
   -- the actions before words are those of paths: where a path of the plan finishes at a word, its actions are those before that word and then the word's
   -- own; and so are messages that lead to the subplan that starts just behind a word
   pub finishes_at : (b : BasicPlan t plan) (ms : List ℕ) (p : ℕ) → PathTo 0 b.plan.term ms finish p

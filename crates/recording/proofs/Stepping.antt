@@ -1,4 +1,5 @@
 -- The steps made on a graph: the loop's invariant, that one entry more keeps it, and how the loop ends.
+use Rattle.std.specs.Prelude.{Some, None}
 use Prim.Native.Nat.{ℕ, ◌+◌, ◌-◌, ◌≤◌, ◌<◌}
 use native.Mathlib.Omega.{arith}
 use native.Mathlib.Numerals.{add-one}
@@ -20,6 +21,8 @@ use Rattle.rewritings.proofs.Moves.{bytes_last}
 use Rattle.graph.specs.Graph.{Graph, ToRead, read_none, read_more}
 use Rattle.graphsteps.specs.declared.Reading.{Reading}
 use Rattle.graphsteps.specs.declared.Cut.{Cut}
+use Rattle.graphsteps.specs.declared.Stop.{Stop}
+use Rattle.graphsteps.specs.Stopping.{stop_number}
 use Rattle.graphsteps.specs.declared.NextEntry.{NextEntry}
 use Rattle.graphsteps.specs.declared.NextEntry.TheVariants.{Read, Step, Stopped, NoNode}
 use Rattle.graphsteps.specs.Holding.{Arrays, in_use, Fits, Holding, SomePlan, CutOf, NotMade, Advanced, went_on, stepped, not_made, no_node, AdvancedOn}
@@ -27,7 +30,7 @@ use Rattle.rewritings.specs.Runs.{run}
 use Rattle.recording.specs.Recording.{Counted, EndOf, run_ends, MadeOf, none_made, some_made, MadeOn}
 use Rattle.recording.specs.Recording as recording
 use Rattle.recording.specs.declared.Ending.{Ending}
-use Rattle.recording.specs.declared.Ending.TheVariants.{Run as EndsRun, NoNode as EndsNoNode}
+use Rattle.recording.specs.declared.Ending.TheVariants.{Over, NoNode as EndsNoNode}
 use Rattle.recording.specs.declared.StepsMade.{StepsMade}
 use Rattle.recording.proofs.Runs.{run_nowhere, run-goes, stop-ends}
 
@@ -87,9 +90,9 @@ pub record Stepped (t : Tables) (c left room : ℕ) (m' : Arrays) (p : Reading) 
       → run t c left room i w v r ≡ run t c (left - 1) (room - 3) (i + 1) w' w (r ++ (record { law = law; place = p.read } ∷ []))
 
 -- a step was not made, or no node is left: the arrays are as they were
-pub record Stays (t : Tables) (c left room : ℕ) (m m' : Arrays) (p : Reading) (number : ℕ) (w : List ℕ) : Type 0 where
+pub record Stays (t : Tables) (c left room : ℕ) (m m' : Arrays) (p : Reading) (stop : Stop) (w : List ℕ) : Type 0 where
   pub same : m' ≡ m
-  pub why : NotMade t c left room w number
+  pub why : NotMade t c left room w (stop_number stop)
 
 pub record Full (m m' : Arrays) (p : Reading) : Type 0 where
   pub same : m' ≡ m
@@ -113,7 +116,7 @@ module _ {t : Tables} {c left room : ℕ} {m m' : Arrays} {p : Reading} where
         runs = λ i v r. rw (add-one i) (run-goes t c w _ e left room a b holding.short i v r);
       }
 
-  stop_of : {number : ℕ} {w : List ℕ} → Advanced t c left room m m' p w (Stopped number) → Stays t c left room m m' p number w
+  stop_of : {why : Stop} {w : List ℕ} → Advanced t c left room m m' p w (Stopped why) → Stays t c left room m m' p why w
   stop_of (not_made _ why e) = record { same = e; why = why }
 
   full_of : {w : List ℕ} → Advanced t c left room m m' p w NoNode → Full m m' p
@@ -126,7 +129,7 @@ module _ {t : Tables} {c left room : ℕ} {m m' : Arrays} {p : Reading} where
     pub step : {law : ℕ} {p' : Reading} {k : Cut} → o ≡ Step law p' k → (w : List ℕ) → Holding t c m p w → Stepped t c left room m' p law p' k w
     step q w h = step_of (subst (Advanced t c left room m m' p w) q (a.advanced w h))
 
-    pub stop : {number : ℕ} → o ≡ Stopped number → (w : List ℕ) → Holding t c m p w → Stays t c left room m m' p number w
+    pub stop : {why : Stop} → o ≡ Stopped why → (w : List ℕ) → Holding t c m p w → Stays t c left room m m' p why w
     stop q w h = stop_of (subst (Advanced t c left room m m' p w) q (a.advanced w h))
 
     pub full : o ≡ NoNode → SomePlan t c m p → Full m m' p
@@ -238,10 +241,10 @@ module _ {t : Tables} {c allowed used : ℕ} {list₀ : List ℕ} {m₀ : Arrays
   ends e f q = rw q (record { made = λ w h. ended e f w (g.so_far w h) })
 
   -- the next step is not made
-  pub stops : {m' : Arrays} {number : ℕ} → ((w : List ℕ) → Holding t c m p w → Stays t c left (length list - end) m m' p number w)
-      → MadeOn t c allowed used list₀ list m₀ m' p₀ s₀ (reached p k s left end (EndsRun number))
-  stops {number = number} f =
-      ends (EndsRun number) (λ w h. run_ends number (rw same_room (stop-ends t c left (length list - end) w (f w h).why))) (f g.plan.some_plan g.plan.holding).same
+  pub stops : {m' : Arrays} {why : Stop} → ((w : List ℕ) → Holding t c m p w → Stays t c left (length list - end) m m' p why w)
+      → MadeOn t c allowed used list₀ list m₀ m' p₀ s₀ (reached p k s left end (Over (Some why)))
+  stops {why = why} f =
+      ends (Over (Some why)) (λ w h. run_ends (Some why) (rw same_room (stop-ends t c left (length list - end) w (f w h).why))) (f g.plan.some_plan g.plan.holding).same
 
   -- no node is left
   pub fills : {m' : Arrays} → Full m m' p → p.rest < most_words → MadeOn t c allowed used list₀ list m₀ m' p₀ s₀ (reached p k s left end EndsNoNode)
@@ -257,5 +260,5 @@ module _ {t : Tables} {c allowed used : ℕ} {list₀ : List ℕ} {m₀ : Arrays
       let z = none_behind h.to_read (omega (arith, length-drop p.rest m.todo, g.fits.todo_long)) in
       rw (h.plan, z, append-nil (spell h.terms)) h.quiet
 
-  pub finishes : most_words ≤ p.rest → MadeOn t c allowed used list₀ list m₀ m p₀ s₀ (reached p k s left end (EndsRun 0))
-  finishes l = ends (EndsRun 0) (λ w h. run_ends 0 (run_nowhere t c left (length list₀ - end) w (all_read l w h))) refl
+  pub finishes : most_words ≤ p.rest → MadeOn t c allowed used list₀ list m₀ m p₀ s₀ (reached p k s left end (Over None))
+  finishes l = ends (Over None) (λ w h. run_ends None (run_nowhere t c left (length list₀ - end) w (all_read l w h))) refl

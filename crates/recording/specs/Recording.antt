@@ -1,5 +1,5 @@
 -- Nobody need believe this: contracts of functions cite it. What steps made on a graph, one after another, answer and record.
-use Rattle.std.specs.Prelude.{ℕ, ◌+◌, ◌-◌, ◌≤◌, ◌<◌, ◌≡◌, List, ◌++◌, length}
+use Rattle.std.specs.Prelude.{ℕ, ◌+◌, ◌-◌, ◌≤◌, ◌<◌, ◌≡◌, List, ◌++◌, length, Option as Maybe}
 use Rattle.areas.specs.declared.StepState.{StepState}
 use Rattle.areas.specs.Area.{overwrite, most_words}
 use Rattle.areas.specs.Reached.{even?}
@@ -8,9 +8,11 @@ use Rattle.rewritings.specs.Moves.{Move, bytes_of}
 use Rattle.rewritings.specs.Runs.{run}
 use Rattle.graphsteps.specs.declared.Reading.{Reading}
 use Rattle.graphsteps.specs.declared.Cut.{Cut}
+use Rattle.graphsteps.specs.declared.Stop.{Stop}
+use Rattle.graphsteps.specs.Stopping.{end_number}
 use Rattle.graphsteps.specs.Holding.{Arrays, in_use, Fits, Holding, CutOf}
 use Rattle.recording.specs.declared.Ending.{Ending}
-use Rattle.recording.specs.declared.Ending.TheVariants.{Run as EndsRun, NoNode}
+use Rattle.recording.specs.declared.Ending.TheVariants.{Over, NoNode}
 use Rattle.recording.specs.declared.StepsMade.{StepsMade}
 
 -- a run that ends where it stands
@@ -20,7 +22,7 @@ Ends t c m room w number =
 
 -- How steps on a graph end, the plan w reached: with the run, or all nodes are in use and an entry is still to read.
 pub data EndOf (t : Tables) (c m room : ℕ) (a : Arrays) (p : Reading) (w : List ℕ) : Ending → Type 0 where
-  run_ends : (number : ℕ) → Ends t c m room w number → EndOf t c m room a p w (EndsRun number)
+  run_ends : (stop : Maybe Stop) → Ends t c m room w (end_number stop) → EndOf t c m room a p w (Over stop)
   no_node : p.count ≡ length a.own → p.rest < most_words → EndOf t c m room a p w NoNode
 
 -- Some steps were made: s' counts them and their parity, `left` of those allowed are left, and s' tells of the last step what its cut tells.

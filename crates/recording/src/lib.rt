@@ -10,12 +10,12 @@ ghost use Rattle.graphsteps.specs.Holding.{arrays, Fits, SomePlan};
 ghost use Rattle.recording.specs.Recording.{MadeOn};
 
 use areas::{MOST_WORDS, StepState};
-use graphsteps::{Cut, NextEntry, Reading};
+use graphsteps::{Cut, NextEntry, Reading, Stop};
 
-// How the steps on a graph end: with the run, by its number (0 where no law fits any more, or 34 to 36), or because no node is left.
+// How the steps on a graph end: the run is over, since no law fits any more or for what stops it; or no node is left.
 #[derive(Clone, Copy)]
 pub enum Ending {
-    Run(u8),
+    Over(Option<Stop>),
     NoNode,
 }
 
@@ -36,9 +36,8 @@ fn put_record(list: &mut [u8], used: usize, law: u8, place: usize)
     requires { (used + 3 ≤ length list.old) × (place < 65536) }
     ensures { list.new ≡ overwrite list.old used (record_of law place) }
 {
-    list[used] = law;
-    list[used + 1] = (place % 256) as u8;
-    list[used + 2] = (place / 256) as u8;
+    let [low, high] = (place as u16).to_le_bytes();
+    list[used..used + 3].copy_from_slice(&[law, low, high]);
 }
 
 // Reads the entries and makes steps until all are read, a step is not made or no node is left. Each step goes into the step state and off the
@@ -109,14 +108,14 @@ pub fn make_steps(
                 left -= 1;
                 end += 3;
             }
-            NextEntry::Stopped(number) => {
+            NextEntry::Stopped(stop) => {
                 return StepsMade {
                     reading: here,
                     cut,
                     state: reached,
                     allowed: left,
                     used: end,
-                    ending: Ending::Run(number),
+                    ending: Ending::Over(Some(stop)),
                 };
             }
             NextEntry::NoNode => {
@@ -137,6 +136,6 @@ pub fn make_steps(
         state: reached,
         allowed: left,
         used: end,
-        ending: Ending::Run(0),
+        ending: Ending::Over(None),
     }
 }

@@ -1,14 +1,12 @@
 -- A right side as entries: what its words are as entries, their sizes, how they are put, and the last law that has one.
 use Prim.Native.Nat.{ℕ, zero, suc, ◌+◌, ◌-◌, ◌≤◌, ◌<◌}
-use mathlib.Core.Path.{◌≡◌, refl, sym, ◌∙◌}
+use mathlib.Core.Path.{◌≡◌, refl}
 use mathlib.Core.List.{List, [], ◌∷◌, ◌++◌}
 use native.Mathlib.Omega.{arith}
 use native.Mathlib.Numerals.{add-one}
-use lib.ListN.{length, get_or, set, take, drop}
-use lib.Seq.{paste, get_or-take, drop-cons, drop-length, length-take-le}
+use lib.ListN.{length, get_or, drop, drop_of_length-le}
+use lib.Seq.{drop-cons}
 use borrow.Author.Tests.{lt-ltb, le-ltb}
-use Rattle.areas.specs.Area.{overwrite}
-use Rattle.areas.proofs.Area.{paste_more, paste_all}
 use Rattle.graph.specs.Graph.{Graph, entry_size, as_word, as_term, ToRead, read_none, read_more}
 use Rattle.graph.proofs.Reading.{holds-inside}
 use Rattle.redexes.specs.Slots.{entry_for, entries_for, entries_size, SizesReach}
@@ -33,31 +31,15 @@ module _ (c : ℕ) (slots : List ℕ) where
   entries-append [] b = refl
   entries-append (w ∷ a) b = rw (entries-append a b)
 
--- The sizes of the first `count` of some entries, from place i on: one more, and none.
-module _ (sizes l : List ℕ) (count i : ℕ) (fits : count ≤ length l) where
-  pub size-more : i < count → entries_size sizes (drop i (take count l)) ≡ entry_size sizes (get_or l i 0) + entries_size sizes (drop (i + 1) (take count l))
+-- The sizes of entries from place i on: one more, and none.
+module _ (sizes l : List ℕ) (i : ℕ) where
+  pub size-more : i < length l → entries_size sizes (drop i l) ≡ entry_size sizes (get_or l i 0) + entries_size sizes (drop (i + 1) l)
   unfolding entries_size
-  size-more h = rw (add-one i, drop-cons (take count l) i 0 (omega (arith, length-take-le count l fits)), get_or-take count l i 0 h)
+  size-more h = rw (add-one i, drop-cons l i 0 h)
 
-  pub size_none : i ≤ count → count ≤ i → entries_size sizes (drop i (take count l)) ≡ 0
+  pub size_none : length l ≤ i → entries_size sizes (drop i l) ≡ 0
   unfolding entries_size
-  size_none h k = let e : i ≡ length (take count l) = omega (arith, length-take-le count l fits) in rw (e, drop-length (take count l))
-
-  pub reach-one : SizesReach (take count l) sizes → i < count → 256 ≤ get_or l i 0 → get_or l i 0 < length sizes
-  reach-one r h = rw (get_or-take count l i 0 h) at (r i (omega (arith, length-take-le count l fits)))
-
--- They are put into an array one after another.
-module _ (d l : List ℕ) (front count : ℕ) (fits : count ≤ length l) (room : front + count ≤ length d) where
-  abbrev Put : ℕ → List ℕ → Type 0
-  Put i x = x ≡ paste d front (take count l) i
-
-  pub put_one : (x : List ℕ) (i : ℕ) → i < count → Put i x → Put (i + 1) (set x (front + i) (get_or l i 0))
-  put_one x i h e =
-      let q : get_or l i 0 ≡ get_or (take count l) i 0 = sym (get_or-take count l i 0 h) in
-      rw (e, q) (paste_more d (take count l) front i (omega arith) (omega (arith, length-take-le count l fits)))
-
-  pub put_all : (x : List ℕ) → Put count x → x ≡ overwrite d front (take count l)
-  put_all x e = let m = length-take-le count l fits in e ∙ paste_all d (take count l) front count (omega arith) (omega arith)
+  size_none h = rw (drop_of_length-le l h)
 
 -- The nodes among entries that are written as words are in the graph.
 read-inside : {n : ℕ} {g : Graph} {vs ws : List ℕ} → n ≤ 31 → ToRead n g vs ws → (i : ℕ) → i < length vs → 256 ≤ get_or vs i 0 → get_or vs i 0 < length g.own

@@ -1,4 +1,5 @@
 -- The law that what the operands are tell is the lowest of laws 5 to 32 that fits, and its letters stand for what they are bound to.
+use Rattle.std.specs.Prelude.{Some, None, IfSome, Option as Maybe}
 use Prim.Native.Nat.{ℕ, ◌+◌, ◌≤◌}
 use mathlib.Core.Path.{◌≡◌, refl, ◌∙◌}
 use Rattle.tables.specs.Tables.{Tables, actions}
@@ -15,11 +16,9 @@ use Rattle.plans.proofs.Words.{word_unary, word_binary}
 use Rattle.graph.specs.Graph.{Graph, Holds, Root, root_one, root_two}
 use Rattle.rewritings.specs.Roots.{first_law}
 use Rattle.redexes.specs.declared.Redex.{Redex}
-use Rattle.redexes.specs.Slots.{RootTerm, ChosenRoot, slots_of}
+use Rattle.redexes.specs.Slots.{RootTerm, ChosenRoot}
 use Rattle.redexes.specs.Redexes.{
   operand_of,
-  Small,
-  no_redex,
   on_plans,
   choice_redex,
   sequence_redex,
@@ -29,32 +28,28 @@ use Rattle.redexes.specs.Redexes.{
   priority_redex,
   encapsulation_redex,
 }
-use Rattle.redexes.proofs.Operands.{seen, small}
+use Rattle.redexes.proofs.Operands.{seen}
 use Rattle.redexes.proofs.Letters.{Told, told_chosen, told_actions}
 use Rattle.redexes.proofs.OneOperand.{choice_told, merge_told, sequence_told, left_merge_told, priority_told, encapsulation_told}
 use Rattle.redexes.proofs.TwoOperands.{communication_told, unless_told}
 use Rattle.laws.specs.Laws.{first_choice, choices}
 
 -- what the operands a and b tell, by the operator
-unfoldable pub redex-under : Tables → Graph → Word → ℕ → ℕ → Redex
-redex-under t g (Action v) a b = no_redex
+unfoldable pub redex-under : Tables → Graph → Word → ℕ → ℕ → Maybe Redex
+redex-under t g (Action v) a b = None
 redex-under t g (One Priority) a b = priority_redex (operand_of g a)
 redex-under t g (One (Encapsulation h)) a b = encapsulation_redex t (80 + h) (operand_of g a)
 redex-under t g (Two Choice) a b = choice_redex a b
 redex-under t g (Two Sequence) a b = sequence_redex b (operand_of g a)
-redex-under t g (Two Merge) a b = on_plans 11 a b 0
+redex-under t g (Two Merge) a b = Some (on_plans 11 a b 0)
 redex-under t g (Two LeftMerge) a b = left_merge_redex b (operand_of g a)
 redex-under t g (Two CommunicationMerge) a b = communication_redex a b (operand_of g a) (operand_of g b)
 redex-under t g (Two Unless) a b = unless_redex t a b (operand_of g a) (operand_of g b)
-redex-under t g NoWord a b = no_redex
+redex-under t g NoWord a b = None
 
 -- by the operator's word
-unfoldable pub redex_of : Tables → Graph → ℕ → ℕ → ℕ → Redex
+unfoldable pub redex_of : Tables → Graph → ℕ → ℕ → ℕ → Maybe Redex
 redex_of t g w a b = redex-under t g (word_of (actions t) w) a b
-
--- what is under a word 0 is a word
-pub operand_small : {n : ℕ} {g : Graph} {v : ℕ} {u : Term} → n ≤ 31 → Holds n g v u → Small (operand_of g v)
-operand_small few h = small few (seen few h)
 
 module _ (t : Tables) (ok : Lawful t) where
   pub few : actions t ≤ 31
@@ -83,19 +78,19 @@ module _ (t : Tables) (ok : Lawful t) where
   root_told (root_two {o} e p q) = rw (e, word_binary (actions t) few o) (two_told o p q)
 
   -- what is told at a root is the law chosen there, and its actions are actions
-  module _ {g : Graph} {w a b : ℕ} (x : RootTerm (actions t) g w a b) (r : Redex) where
-    pub redex_chosen : r ≡ redex_of t g w a b → ChosenRoot t (actions t) g w a b (slots_of r) r.law × (r.a ≤ 31) × (r.b ≤ 31)
+  module _ {g : Graph} {w a b : ℕ} (x : RootTerm (actions t) g w a b) (r : Maybe Redex) where
+    pub redex_chosen : r ≡ redex_of t g w a b → ChosenRoot t (actions t) g w a b r × IfSome r (λ d. (d.a ≤ 31) × (d.b ≤ 31))
     redex_chosen e =
         let l = told_actions t few (root_told x.root) in
-        rw e (record { chosen_root = λ u q. told_chosen t few (refl, ok) (root_told q) }, l.0, l.1)
+        rw e (record { chosen_root = λ u q. told_chosen t few (refl, ok) (root_told q) }, l)
 
     -- so it is for the word of an operator
     pub one_chosen : (o : Unary) → SetNumber o → w ≡ unary_word o → r ≡ redex-under t g (One o) a b
-        → ChosenRoot t (actions t) g w a b (slots_of r) r.law × (r.a ≤ 31) × (r.b ≤ 31)
+        → ChosenRoot t (actions t) g w a b r × IfSome r (λ d. (d.a ≤ 31) × (d.b ≤ 31))
     unfolding redex_of
     one_chosen o k e i = redex_chosen (i ∙ rw (e, word_unary (actions t) few o k))
 
     pub two_chosen : (o : Binary) → w ≡ binary_word o → r ≡ redex-under t g (Two o) a b
-        → ChosenRoot t (actions t) g w a b (slots_of r) r.law × (r.a ≤ 31) × (r.b ≤ 31)
+        → ChosenRoot t (actions t) g w a b r × IfSome r (λ d. (d.a ≤ 31) × (d.b ≤ 31))
     unfolding redex_of
     two_chosen o e i = redex_chosen (i ∙ rw (e, word_binary (actions t) few o))

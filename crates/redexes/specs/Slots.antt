@@ -1,6 +1,6 @@
 -- Nobody need believe this file: what it says is carried by the theorem `redex_chosen`. The laws at the root of a term that a graph holds: what a
 -- law's letters stand for, in slots, and its right side as entries.
-use Rattle.std.specs.Prelude.{ℕ, ◌+◌, ◌-◌, ◌≤◌, ◌<◌, ◌≡◌, cond, List, [], ◌∷◌, length, get_or, ltb}
+use Rattle.std.specs.Prelude.{ℕ, ◌+◌, ◌-◌, ◌≤◌, ◌<◌, ◌≡◌, cond, List, [], ◌∷◌, length, get_or, ltb, Option as Maybe, Some, None}
 use Rattle.std.proofs.Math.Option.{Option, none, some}
 use Rattle.areas.specs.Area.{overwrite}
 use Rattle.tables.specs.Tables.{Tables, communication}
@@ -10,8 +10,7 @@ use Rattle.graph.specs.Graph.{Graph, Root, ToRead, entry_size}
 use Rattle.laws.specs.Postfix.{forth}
 use Rattle.rewritings.specs.Roots.{first_law}
 use Rattle.redexes.specs.declared.Redex.{Redex}
-use Rattle.redexes.specs.declared.Put.{Put}
-use Rattle.redexes.specs.declared.Put.TheVariants.{At, Long}
+use Rattle.redexes.specs.declared.Placed.{Placed}
 
 -- a node's entry is one of the graph
 abbrev pub Entry : Graph → ℕ → Type 0
@@ -43,13 +42,14 @@ unfoldable pub entries_size : List ℕ → List ℕ → ℕ
 entries_size sizes [] = 0
 entries_size sizes (v ∷ vs) = entry_size sizes v + entries_size sizes vs
 
--- Law k is chosen at the root, or 0 where none fits; its right side, as entries, is written as the term that it gives.
-pub data ChosenAt (t : Tables) (n : ℕ) (g : Graph) (slots : List ℕ) : Option (ℕ × Term) → ℕ → Type 0 where
-  none_at : ChosenAt t n g slots none 0
-  chosen_at : (k : ℕ) (v : Term) → first_choice ≤ k → k ≤ highest_law → ToRead n g (side_entries t k slots) (words v) → ChosenAt t n g slots (some (k, v)) k
+-- A law is chosen at the root, or none where none fits; its right side, as entries, is written as the term that it gives.
+pub data ChosenAt (t : Tables) (n : ℕ) (g : Graph) : Option (ℕ × Term) → Maybe Redex → Type 0 where
+  none_at : ChosenAt t n g none None
+  chosen_at : (r : Redex) (v : Term) → first_choice ≤ r.law → r.law ≤ highest_law → ToRead n g (side_entries t r.law (slots_of r)) (words v)
+      → ChosenAt t n g (some (r.law, v)) (Some r)
 
-pub record ChosenRoot (t : Tables) (n : ℕ) (g : Graph) (w a b : ℕ) (slots : List ℕ) (r : ℕ) : Type 0 where
-  pub chosen_root : (u : Term) → Root n g w a b u → ChosenAt t n g slots (first_law t first_choice choices u) r
+pub record ChosenRoot (t : Tables) (n : ℕ) (g : Graph) (w a b : ℕ) (r : Maybe Redex) : Type 0 where
+  pub chosen_root : (u : Term) → Root n g w a b u → ChosenAt t n g (first_law t first_choice choices u) r
 
 -- the sizes of all nodes among entries are there
 abbrev pub SizesReach : List ℕ → List ℕ → Type 0
@@ -61,7 +61,7 @@ pub record PutReady (sizes entries : List ℕ) (rest most : ℕ) : Type 0 where
   pub room : entries_size sizes entries ≤ most → length entries ≤ rest
 
 -- entries are put before place `rest` of an area, from `front` on, unless they are more than `most` words
-pub data PutBefore (sizes entries todo : List ℕ) (rest most : ℕ) : List ℕ → Put → Type 0 where
+pub data PutBefore (sizes entries todo : List ℕ) (rest most : ℕ) : List ℕ → Maybe Placed → Type 0 where
   put_at : (front size : ℕ) → front + length entries ≡ rest → size ≡ entries_size sizes entries → size ≤ most
-      → PutBefore sizes entries todo rest most (overwrite todo front entries) (At front size)
-  too_long : most < entries_size sizes entries → PutBefore sizes entries todo rest most todo Long
+      → PutBefore sizes entries todo rest most (overwrite todo front entries) (Some (record { front = front; size = size }))
+  too_long : most < entries_size sizes entries → PutBefore sizes entries todo rest most todo None

@@ -7,23 +7,22 @@ use mathlib.Core.List.{[]}
 use mathlib.Core.Logic.{◌↔◌}
 use mathlib.Core.Option.{Option, none, some}
 use Rattle.refusals.specs.declared.Refusal.{Refusal}
-use Rattle.refusals.specs.declared.Judgement.{Judgement}
-use Rattle.refusals.specs.declared.Judgement.TheVariants.{Accepted, Refused}
+use Rattle.std.specs.Prelude.{Result, Ok, Err, ⊤}
 use Rattle.refusals.specs.Refusal.{refuse_if, or_else, judged, report, reported}
 
 never {ℓ} : {C : Type ℓ} {r : Refusal} → ◌≡◌ {A = Option Refusal} none (some r) → C
 never e = let q : ◌≡◌ {A = ℕ} 0 1 = cc in absurd (omega arith)
 
-pub accepted_none : (o : Option Refusal) → judged o ≡ Accepted → o ≡ none
+pub accepted_none : (o : Option Refusal) → judged o ≡ Ok tt → o ≡ none
 accepted_none none e = refl
 accepted_none (some r) e = let q : ◌≡◌ {A = ℕ} 0 1 = cc in absurd (omega arith)
 
-pub refused_some : (o : Option Refusal) (r : Refusal) → judged o ≡ Refused r → o ≡ some r
+pub refused_some : (o : Option Refusal) (r : Refusal) → judged o ≡ Err r → o ≡ some r
 refused_some none r e = let q : ◌≡◌ {A = ℕ} 0 1 = cc in absurd (omega arith)
 refused_some (some f) r e = cc
 
 -- a call that judges accepts exactly what is refused nothing
-pub accepts_iff : (o : Option Refusal) (r : Judgement) (P : Type 0) → r ≡ judged o → (o ≡ none) ↔ P → (r ≡ Accepted) ↔ P
+pub accepts_iff : (o : Option Refusal) (r : Result ⊤ Refusal) (P : Type 0) → r ≡ judged o → (o ≡ none) ↔ P → (r ≡ Ok tt) ↔ P
 accepts_iff o r P e h = (λ q. h.0 (accepted_none o (sym e ∙ q)), λ p. e ∙ ap judged (h.1 p))
 
 -- there is no first refusal of two exactly where there is none of either

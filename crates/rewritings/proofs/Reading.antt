@@ -1,89 +1,85 @@
 -- A record as the code reads it at a position, and the records from there on by what was read.
-use Prim.Native.Nat.{ℕ, suc, ◌+◌, ◌-◌, ◌*◌, ◌≤◌, ◌<◌}
+use Prim.Native.Nat.{ℕ, ◌+◌, ◌-◌, ◌*◌, ◌≤◌, ◌<◌}
 use native.Mathlib.Omega.{arith}
 use mathlib.Core.Path.{◌≡◌, refl, ap}
 use mathlib.Core.Bool.{Bool, true, false, cond}
 use mathlib.Core.List.{List, [], ◌∷◌}
 use lib.ListN.{length, get_or, take, drop, length-drop, drop_of_length-le}
-use lib.Seq.{drop-cons, drop-drop}
+use lib.Seq.{drop-drop}
 use lib.Dec.{leb}
 use borrow.Author.Tests.{le-leb, lt-leb}
+use Rattle.std.specs.Prelude.{Some, None}
 use Rattle.laws.specs.Laws.{highest_law}
-use Rattle.rewritings.specs.declared.Record.TheVariants.{Step, Back, End}
+use Rattle.rewritings.specs.declared.Record.TheVariants.{Step, Back}
 use Rattle.rewritings.specs.Moves.{Move}
 use Rattle.rewritings.specs.Records.{Recorded, forward, backward, backward?, First, nothing, cut_short, one_step, first_carried, first_backward, first_with, first_record, Cut, go_on, cut_from, records_of, whole?}
 use Rattle.rewritings.specs.Reading.{read_first, record_at}
 use Rattle.rewritings.proofs.Cutting.{low_backward, first-within, cut_by}
 
--- a step backwards, behind its place: its length and the words behind that
-short-backward : (m : Move) (p : ℕ) (r : List ℕ) → length r < 2 → End ≡ read_first p (first_backward m r)
-unfolding first_backward
-short-backward m p [] h = refl
-short-backward m p (a ∷ []) h = refl
-short-backward m p (a ∷ (b ∷ r)) h = absurd (omega arith)
+-- a step backwards, by the bytes behind its place: its length and the words behind that
+module _ (m : Move) (p : ℕ) where
+  pub back-short : (r : List ℕ) → length r < 2 → None ≡ read_first p (first_backward m r)
+  unfolding first_backward
+  back-short [] h = refl
+  back-short (a ∷ []) h = refl
+  back-short (a ∷ (b ∷ r)) h = absurd (omega arith)
 
-module _ (ws : List ℕ) (p : ℕ) (m : Move) (place-there : p + 3 ≤ length ws) where
-  pub back-short : length ws - p < 5 → End ≡ read_first p (first_backward m (drop (p + 3) ws))
-  back-short h = short-backward m p (drop (p + 3) ws) (rw (length-drop (p + 3) ws) (omega arith))
+  opened-back : (r : List ℕ) (size : ℕ) → 2 ≤ length r → size ≡ get_or r 0 0 + get_or r 1 0 * 256 → first_backward m r ≡ first_carried m size (drop 2 r)
+  unfolding first_backward
+  opened-back [] size h e = absurd (omega arith)
+  opened-back (a ∷ []) size h e = absurd (omega arith)
+  opened-back (a ∷ (b ∷ r)) size h e = let z : a + 256 * b ≡ size = omega arith in rw z
 
-  module _ (length-there : p + 5 ≤ length ws) where
-    abbrev size : ℕ
-    size = get_or ws (p + 3) 0 + 256 * get_or ws (p + 4) 0
-
-    opened-back : first_backward m (drop (p + 3) ws) ≡ first_carried m size (drop (p + 5) ws)
-    unfolding first_backward
-    opened-back =
-        let a : p + 4 ≡ suc (p + 3) = omega arith in
-        let b : p + 5 ≡ suc (suc (p + 3)) = omega arith in
-        rw (a, b, drop-cons ws (p + 3) 0 (omega arith), drop-cons ws (suc (p + 3)) 0 (omega arith))
-
-    pub back_cut : length ws - (p + 5) < size → End ≡ read_first p (first_backward m (drop (p + 3) ws))
+  module _ (r : List ℕ) (size : ℕ) (length-there : 2 ≤ length r) (is : size ≡ get_or r 0 0 + get_or r 1 0 * 256) where
+    pub back_cut : length r - 2 < size → None ≡ read_first p (first_backward m r)
     unfolding first_carried
-    back_cut h = rw (opened-back, lt-leb size (length (drop (p + 5) ws)) (rw (length-drop (p + 5) ws) h))
+    back_cut h = rw (opened-back r size length-there is, lt-leb size (length (drop 2 r)) (rw (length-drop 2 r) h))
 
-    pub back-there : size ≤ length ws - (p + 5) → Back m.law m.place (p + 5) (p + 5 + size) ≡ read_first p (first_backward m (drop (p + 3) ws))
+    pub back-there : size ≤ length r - 2 → Some (Back m.law m.place (p + 5) (p + 5 + size)) ≡ read_first p (first_backward m r)
     unfolding first_carried
     back-there h =
         let e : p + 5 + size ≡ p + (5 + size) = omega arith in
-        rw (opened-back, le-leb size (length (drop (p + 5) ws)) (rw (length-drop (p + 5) ws) h), e)
+        rw (opened-back r size length-there is, le-leb size (length (drop 2 r)) (rw (length-drop 2 r) h), e)
 
 -- a record by its first byte
-short-end : (l : List ℕ) (p : ℕ) → length l < 3 → End ≡ read_first p (first_record l)
+short-end : (l : List ℕ) (p : ℕ) → length l < 3 → None ≡ read_first p (first_record l)
 unfolding first_record
 short-end [] p h = refl
 short-end (k ∷ []) p h = refl
 short-end (k ∷ (l ∷ [])) p h = refl
 short-end (k ∷ (l ∷ (x ∷ r))) p h = absurd (omega arith)
 
+opened-first : (r : List ℕ) (place : ℕ) → 3 ≤ length r → place ≡ get_or r 1 0 + get_or r 2 0 * 256
+    → first_record r ≡ first_with (get_or r 0 0) place (drop 3 r)
+unfolding first_record
+opened-first [] place h e = absurd (omega arith)
+opened-first (k ∷ []) place h e = absurd (omega arith)
+opened-first (k ∷ (l ∷ [])) place h e = absurd (omega arith)
+opened-first (k ∷ (l ∷ (x ∷ r))) place h e = let z : l + 256 * x ≡ place = omega arith in rw z
+
 module _ (ws : List ℕ) (p : ℕ) where
-  pub record_short : length ws < p + 3 → End ≡ record_at ws p
+  pub record_short : length ws < p + 3 → None ≡ record_at ws p
   unfolding record_at
   record_short h = short-end (drop p ws) p (rw (length-drop p ws) (omega arith))
 
-  module _ (there : p + 3 ≤ length ws) where
-    abbrev place : ℕ
-    place = get_or ws (p + 1) 0 + 256 * get_or ws (p + 2) 0
+  -- the bytes from a position on, as they are lent
+  module _ (r : List ℕ) (place : ℕ) (lent : r ≡ drop p ws) (there : 3 ≤ length r) (is : place ≡ get_or r 1 0 + get_or r 2 0 * 256) where
+    opened : record_at ws p ≡ read_first p (first_with (get_or r 0 0) place (drop (p + 3) ws))
+    unfolding record_at
+    opened = rw (← lent, opened-first r place there is, lent, drop-drop 3 p ws)
 
-    opened : record_at ws p ≡ read_first p (first_with (get_or ws p 0) place (drop (p + 3) ws))
-    unfolding record_at first_record
-    opened =
-        let a : p + 1 ≡ suc p = omega arith in
-        let b : p + 2 ≡ suc (suc p) = omega arith in
-        let c : p + 3 ≡ suc (suc (suc p)) = omega arith in
-        rw (a, b, c, drop-cons ws p 0 (omega arith), drop-cons ws (suc p) 0 (omega arith), drop-cons ws (suc (suc p)) 0 (omega arith))
-
-    pub record_low : get_or ws p 0 < 129 → Step (get_or ws p 0) place (p + 3) ≡ record_at ws p
+    pub record_low : get_or r 0 0 ≤ 128 → Some (Step (get_or r 0 0) place (p + 3)) ≡ record_at ws p
     unfolding first_with
-    record_low h = rw (opened, low_backward (get_or ws p 0) h)
+    record_low h = rw (opened, low_backward (get_or r 0 0) (omega (arith, h)))
 
-    pub record_high : 128 + highest_law < get_or ws p 0 → Step (get_or ws p 0) place (p + 3) ≡ record_at ws p
+    pub record_high : 128 + highest_law < get_or r 0 0 → Some (Step (get_or r 0 0) place (p + 3)) ≡ record_at ws p
     unfolding first_with backward?
-    record_high h = rw (opened, le-leb 129 (get_or ws p 0) (omega arith), lt-leb (get_or ws p 0) (128 + highest_law) h)
+    record_high h = rw (opened, le-leb 129 (get_or r 0 0) (omega arith), lt-leb (get_or r 0 0) (128 + highest_law) h)
 
-    pub record_back : 129 ≤ get_or ws p 0 → get_or ws p 0 ≤ 128 + highest_law
-        → read_first p (first_backward (record { law = get_or ws p 0 - 128; place = place }) (drop (p + 3) ws)) ≡ record_at ws p
+    pub record_back : 128 < get_or r 0 0 → get_or r 0 0 ≤ 128 + highest_law
+        → read_first p (first_backward (record { law = get_or r 0 0 - 128; place = place }) (drop (p + 3) ws)) ≡ record_at ws p
     unfolding first_with backward?
-    record_back low high = rw (opened, le-leb 129 (get_or ws p 0) low, le-leb (get_or ws p 0) (128 + highest_law) high)
+    record_back low high = rw (opened, le-leb 129 (get_or r 0 0) (omega (arith, low)), le-leb (get_or r 0 0) (128 + highest_law) high)
 
 -- The records from a position on, by what the code reads there.
 module _ (ws : List ℕ) (p : ℕ) where
@@ -107,11 +103,11 @@ module _ (ws : List ℕ) (p : ℕ) where
   cut_here f e = cut_by (drop p ws) f e
 
   -- at the end no record is left
-  pub records-end : End ≡ record_at ws p → records_of (drop p ws) ≡ []
+  pub records-end : None ≡ record_at ws p → records_of (drop p ws) ≡ []
   unfolding record_at records_of
   records-end e = go (first_record (drop p ws)) refl e
     where
-      go : (f : First) → first_record (drop p ws) ≡ f → End ≡ read_first p f → (cut_from 0 (drop p ws)).records ≡ []
+      go : (f : First) → first_record (drop p ws) ≡ f → None ≡ read_first p f → (cut_from 0 (drop p ws)).records ≡ []
       go nothing q e = ap (λ (c : Cut). c.records) (cut_here nothing q)
       go cut_short q e = ap (λ (c : Cut). c.records) (cut_here cut_short q)
       go (one_step (forward m) size) q e = let z : ◌≡◌ {A = ℕ} 0 1 = cc in absurd (omega arith)
@@ -135,11 +131,11 @@ module _ (ws : List ℕ) (p : ℕ) where
       go true (b ∷ (c ∷ r)) e = carried (leb (b + 256 * c) (length r)) nothing _ _ e
       go false r e = let z : ◌≡◌ {A = ℕ} 0 1 = cc in omega arith
 
-  pub end_short : End ≡ record_at ws p → p < length ws → whole? (drop p ws) ≡ false
+  pub end_short : None ≡ record_at ws p → p < length ws → whole? (drop p ws) ≡ false
   unfolding record_at whole?
   end_short e h = go (first_record (drop p ws)) refl e
     where
-      go : (f : First) → first_record (drop p ws) ≡ f → End ≡ read_first p f → (cut_from 0 (drop p ws)).whole ≡ false
+      go : (f : First) → first_record (drop p ws) ≡ f → None ≡ read_first p f → (cut_from 0 (drop p ws)).whole ≡ false
       go nothing q e = absurd (first_bytes (drop p ws) (rw (length-drop p ws) (omega arith)) q)
       go cut_short q e = ap (λ (c : Cut). c.whole) (cut_here cut_short q)
       go (one_step (forward m) size) q e = let z : ◌≡◌ {A = ℕ} 0 1 = cc in absurd (omega arith)
@@ -149,11 +145,11 @@ module _ (ws : List ℕ) (p : ℕ) where
   unfolding whole? cut_from
   end_whole h = rw (drop_of_length-le ws h)
 
-  pub records-step : (k q next : ℕ) → Step k q next ≡ record_at ws p → StepRead k q next
+  pub records-step : (k q next : ℕ) → Some (Step k q next) ≡ record_at ws p → StepRead k q next
   unfolding record_at records_of whole?
   records-step k q next e = go (first_record (drop p ws)) refl e
     where
-      go : (f : First) → first_record (drop p ws) ≡ f → Step k q next ≡ read_first p f → StepRead k q next
+      go : (f : First) → first_record (drop p ws) ≡ f → Some (Step k q next) ≡ read_first p f → StepRead k q next
       go nothing z e = let z : ◌≡◌ {A = ℕ} 0 1 = cc in absurd (omega arith)
       go cut_short z e = let z : ◌≡◌ {A = ℕ} 0 1 = cc in absurd (omega arith)
       go (one_step (backward m left) size) z e = let z : ◌≡◌ {A = ℕ} 0 1 = cc in absurd (omega arith)
@@ -170,11 +166,11 @@ module _ (ws : List ℕ) (p : ℕ) where
             ends = rw (j, ← drop-drop size p ws) (ap (λ (c : Cut). c.whole) here);
           }
 
-  pub records-back : (k q from next : ℕ) → Back k q from next ≡ record_at ws p → BackRead k q from next
+  pub records-back : (k q from next : ℕ) → Some (Back k q from next) ≡ record_at ws p → BackRead k q from next
   unfolding record_at records_of whole?
   records-back k q from next e = go (first_record (drop p ws)) refl e
     where
-      go : (f : First) → first_record (drop p ws) ≡ f → Back k q from next ≡ read_first p f → BackRead k q from next
+      go : (f : First) → first_record (drop p ws) ≡ f → Some (Back k q from next) ≡ read_first p f → BackRead k q from next
       go nothing z e = let z : ◌≡◌ {A = ℕ} 0 1 = cc in absurd (omega arith)
       go cut_short z e = let z : ◌≡◌ {A = ℕ} 0 1 = cc in absurd (omega arith)
       go (one_step (forward m) size) z e = let z : ◌≡◌ {A = ℕ} 0 1 = cc in absurd (omega arith)

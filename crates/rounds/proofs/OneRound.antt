@@ -171,7 +171,7 @@ module _ (t : Tables) (c allowed used : ℕ) (ws old list : List ℕ) (front : �
   -- no step was made: then nodes are left, since at most as many are in use as entries were read
   end_none : r.reading.count + front ≤ 256 + r.reading.rest → {e : Ending} → EndOf t c allowed (length list - used) m' r.reading w e
       → RoundEnd t c allowed allowed (length list - used) w e
-  end_none few (run_ends number e) = run_over number e
+  end_none few (run_ends stop e) = run_over stop e
   end_none few (no_node all more) = absurd (omega (arith, plan-long d, d.kept.short))
 
   round_none : r.state ≡ s → r.allowed ≡ allowed → r.used ≡ used → list' ≡ list → Holding t c m' r.reading w → r.reading.count + front ≤ 256 + r.reading.rest
@@ -201,7 +201,7 @@ module _ (t : Tables) (c allowed used : ℕ) (ws old list : List ℕ) (front : �
   -- some steps were made
   end_some : r.allowed < allowed → {v : List ℕ} {e : Ending} → EndOf t c r.allowed (length list - r.used) m' r.reading v e
       → RoundEnd t c allowed r.allowed (length list - r.used) v e
-  end_some fewer (run_ends number e) = run_over number e
+  end_some fewer (run_ends stop e) = run_over stop e
   end_some fewer (no_node all more) = another fewer
 
   round_some : (old' : List ℕ) → length old' ≡ most_words → RedexIn (in_use m' r.reading.count) r.cut old' → c ≤ most_words

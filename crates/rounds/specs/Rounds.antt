@@ -1,5 +1,5 @@
 -- Nobody need believe this: contracts of functions cite it. What the parts of a round answer: the plan loaded, written out, and the whole round.
-use Rattle.std.specs.Prelude.{ℕ, ◌+◌, ◌-◌, ◌≤◌, ◌<◌, ◌≡◌, List, ◌++◌, length, take, drop}
+use Rattle.std.specs.Prelude.{ℕ, ◌+◌, ◌-◌, ◌≤◌, ◌<◌, ◌≡◌, List, ◌++◌, length, take, drop, Option as Maybe}
 use Rattle.std.proofs.Math.Option.{none}
 use Rattle.areas.specs.declared.StepState.{StepState}
 use Rattle.areas.specs.Area.{overwrite, most_words}
@@ -12,8 +12,10 @@ use Rattle.rewritings.specs.Moves.{Move, bytes_of}
 use Rattle.rewritings.specs.Runs.{run}
 use Rattle.graph.specs.Graph.{Graph, Root, Held, ToRead}
 use Rattle.graphsteps.specs.declared.Cut.{Cut}
+use Rattle.graphsteps.specs.declared.Stop.{Stop}
+use Rattle.graphsteps.specs.Stopping.{end_number}
 use Rattle.recording.specs.declared.Ending.{Ending}
-use Rattle.recording.specs.declared.Ending.TheVariants.{Run as EndsRun, NoNode}
+use Rattle.recording.specs.declared.Ending.TheVariants.{Over, NoNode}
 use Rattle.recording.specs.Recording.{Ends}
 use Rattle.rounds.specs.declared.Round.{Round}
 
@@ -55,7 +57,7 @@ pub record RedexIn (g : Graph) (k : Cut) (old : List ℕ) : Type 0 where
 
 -- How a round ends, the plan w reached: with the run; or another round follows, with fewer steps allowed.
 pub data RoundEnd (t : Tables) (c allowed left room : ℕ) (w : List ℕ) : Ending → Type 0 where
-  run_over : (number : ℕ) → Ends t c left room w number → RoundEnd t c allowed left room w (EndsRun number)
+  run_over : (stop : Maybe Stop) → Ends t c left room w (end_number stop) → RoundEnd t c allowed left room w (Over stop)
   another : left < allowed → RoundEnd t c allowed left room w NoNode
 
 -- A round was made: ms are its steps, and the run goes on from the plan reached.

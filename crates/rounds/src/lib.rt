@@ -162,6 +162,49 @@ fn round_on(
     }
 }
 
+// A round on a graph of so many nodes.
+fn round_in<const NODES: usize>(
+    tables: &[u8],
+    n: u8,
+    list: &mut [u8],
+    used: usize,
+    words: &mut [u8],
+    old: &mut [u8],
+    front: usize,
+    state: StepState,
+    allowed: usize,
+    limit: usize,
+) -> Round
+    requires n_value { (n ≡ actions tables.now) × Lawful tables.now × (limit ≤ most_words) × (used ≤ length list.old)
+        × (state.steps + allowed < 18446744073709551615) }
+    requires given { Given tables.now limit words.old old.old front state }
+    requires nodes { (limit + 256 ≤ NODES) × (NODES ≤ most_nodes) }
+    ensures { RoundOf tables.now limit allowed used
+        words.old old.old list.old
+        words.new old.new list.new front state result }
+{
+    let mut own = [0u8; NODES];
+    let mut first = [0u16; NODES];
+    let mut second = [0u16; NODES];
+    let mut sizes = [0u16; NODES];
+    round_on(
+        tables,
+        n,
+        list,
+        used,
+        words,
+        old,
+        front,
+        state,
+        allowed,
+        limit,
+        &mut own,
+        &mut first,
+        &mut second,
+        &mut sizes,
+    )
+}
+
 // A round on a graph of few nodes where the limit is small, else of all.
 pub fn make_round(
     tables: &[u8],
@@ -183,45 +226,12 @@ pub fn make_round(
         words.new old.new list.new front state result }
 {
     if limit <= FEW_WORDS {
-        let mut own = [0u8; FEW_NODES];
-        let mut first = [0u16; FEW_NODES];
-        let mut second = [0u16; FEW_NODES];
-        let mut sizes = [0u16; FEW_NODES];
-        return round_on(
-            tables,
-            n,
-            list,
-            used,
-            words,
-            old,
-            front,
-            state,
-            allowed,
-            limit,
-            &mut own,
-            &mut first,
-            &mut second,
-            &mut sizes,
-        );
+        round_in::<FEW_NODES>(
+            tables, n, list, used, words, old, front, state, allowed, limit,
+        )
+    } else {
+        round_in::<MOST_NODES>(
+            tables, n, list, used, words, old, front, state, allowed, limit,
+        )
     }
-    let mut own = [0u8; MOST_NODES];
-    let mut first = [0u16; MOST_NODES];
-    let mut second = [0u16; MOST_NODES];
-    let mut sizes = [0u16; MOST_NODES];
-    round_on(
-        tables,
-        n,
-        list,
-        used,
-        words,
-        old,
-        front,
-        state,
-        allowed,
-        limit,
-        &mut own,
-        &mut first,
-        &mut second,
-        &mut sizes,
-    )
 }

@@ -1,6 +1,7 @@
 -- Blocks of a file: how long each is, and the search through them.
+use Rattle.std.specs.Prelude.{Result, ⊤}
 use Prim.Native.Nat.{ℕ, zero, suc, ◌+◌, ◌-◌, ◌*◌, ◌≤◌, ◌<◌}
-use mathlib.Core.Path.{◌≡◌, refl, sym, ◌∙◌, ap}
+use mathlib.Core.Path.{◌≡◌, refl, sym, ◌∙◌}
 use mathlib.Core.Bool.{true}
 use mathlib.Core.List.{List}
 use mathlib.Core.Logic.{⊎_elim}
@@ -11,7 +12,6 @@ use native.Mathlib.Numerals.{add-one}
 use lib.ListN.{length, take, drop, length-drop}
 use lib.Seq.{length-take-le}
 use Rattle.refusals.specs.declared.Refusal.{Refusal}
-use Rattle.refusals.specs.declared.Judgement.{Judgement}
 use Rattle.refusals.specs.Refusal.{judged}
 use Rattle.tables.specs.Search.{first_of, first_from}
 use Rattle.blocks.specs.Block.{block_refusal}
@@ -50,9 +50,9 @@ block-part f i =
 abbrev pub at : List ℕ → ℕ → Option Refusal
 at f i = block_refusal (blocks f) i (block f i)
 
-pub judged_at : (f : List ℕ) (i : ℕ) {r : Judgement}
-    → r ≡ judged (block_refusal (blocks f) i (take (512 * i + 512 - 512 * i) (drop (512 * i) f))) → r ≡ judged (at f i)
-judged_at f i e = e ∙ ap (λ (b : List ℕ). judged (block_refusal (blocks f) i b)) (block-part f i)
+pub judged_at : (f : List ℕ) (i : ℕ) {n : ℕ} {b : List ℕ} {r : Result ⊤ Refusal} → n ≡ blocks f → b ≡ block f i
+    → r ≡ judged (block_refusal n i b) → r ≡ judged (at f i)
+judged_at f i p q e = e ∙ rw (p, q)
 
 pub found : List ℕ → ℕ → Option Refusal
 found f i = first_from (at f) i (blocks f - i)

@@ -1,5 +1,5 @@
 -- Station files: what they hold, when they are refused, and what reading one answers and leaves. (01, "Orders, station files, program".)
-use Rattle.std.specs.Prelude.{ℕ, zero, suc, ◌-◌, ◌*◌, ◌/◌, ◌%◌, Bool, ◌&&◌, List, [], ◌∷◌, ◌++◌, length, take, drop, eqb, leb}
+use Rattle.std.specs.Prelude.{ℕ, zero, suc, ◌-◌, ◌*◌, ◌/◌, ◌%◌, Bool, ◌&&◌, List, [], ◌∷◌, ◌++◌, length, take, drop, eqb, leb, Result, Ok, Err}
 use Rattle.std.proofs.Math.Option.{Option, none, some}
 use Rattle.refusals.specs.declared.Refusal.{Refusal}
 use Rattle.refusals.specs.Refusal.{refuse_unless, or_else, Report, refused_report, reported}
@@ -7,8 +7,6 @@ use Rattle.areas.specs.Area.{padded}
 use Rattle.blocks.specs.Block.{used, block_refusal}
 use Rattle.tables.specs.Search.{first_from}
 use Rattle.plans.specs.Judging.{plan_refusal}
-use Rattle.stations.specs.declared.StationRead.{StationRead}
-use Rattle.stations.specs.declared.StationRead.TheVariants.{Read, Refused}
 
 -- "blocks of 512 bytes": how many, and block i
 unfoldable pub blocks : List ℕ → ℕ
@@ -52,24 +50,24 @@ file_refusal f tables_area plan_area = or_else (form_refusal f) (held_refusal (t
 
 -- everything that reading a file answers and leaves
 pub record StationOutcome : Type 0 where
-  pub answer : StationRead
+  pub answer : Result ℕ Refusal
   pub tables : List ℕ
   pub plan : List ℕ
 
 -- "Output areas: tables and plan, zeros after; untouched when refused.": tables and a plan for the areas t and p
 abbrev pub unless_refused : Option Refusal → List ℕ → List ℕ → List ℕ → List ℕ → StationOutcome
-unless_refused (some r) tables plan t p = record { answer = Refused r; tables = t; plan = p }
+unless_refused (some r) tables plan t p = record { answer = Err r; tables = t; plan = p }
 unless_refused none tables plan t p =
-    record { answer = Read (length plan); tables = padded tables (length t); plan = padded plan (length p) }
+    record { answer = Ok (length plan); tables = padded tables (length t); plan = padded plan (length p) }
 
 -- the file f read into the areas t and p
 unfoldable pub station_outcome : List ℕ → List ℕ → List ℕ → StationOutcome
 station_outcome f t p = unless_refused (file_refusal f (length t) (length p)) (tables_held f) (plan_held f) t p
 
 -- an answer in 01's numbers: the plan's length where the file is read
-abbrev pub station_report : StationRead → Report
-station_report (Read size) = record { number = 0; place = 0; values = size ∷ [] }
-station_report (Refused r) = refused_report r
+abbrev pub station_report : Result ℕ Refusal → Report
+station_report (Ok size) = record { number = 0; place = 0; values = size ∷ [] }
+station_report (Err r) = refused_report r
 
 -- what is reported of reading the file f into the areas t and p
 abbrev pub station_reported : List ℕ → List ℕ → List ℕ → Report

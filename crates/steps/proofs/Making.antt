@@ -4,6 +4,7 @@ use native.Mathlib.Omega.{arith}
 use mathlib.Core.Path.{◌≡◌, refl}
 use mathlib.Core.List.{List, ◌++◌}
 use mathlib.Core.Option.{none}
+use Rattle.std.specs.Prelude.{Some}
 use lib.ListN.{length, take, drop, length-append, length-drop}
 use lib.Seq.{length-take-le, take-take}
 use Rattle.tables.specs.Tables.{Tables, actions}
@@ -16,7 +17,6 @@ use Rattle.buffer.specs.Buffer.{whole}
 use Rattle.buffer.specs.Moves.{Gap}
 use Rattle.buffer.proofs.Whole.{held_gap, whole_length, step-whole, held-step, before-step, kept_step}
 use Rattle.steps.specs.Working.{plan_in, Working, Next, start_here, next_with, Put, put_in}
-use Rattle.steps.specs.declared.Replaced.TheVariants.{Step}
 use Rattle.rewritings.proofs.Prefixes.{put_last}
 use Rattle.areas.specs.Area.{most_words}
 
@@ -66,7 +66,7 @@ module _ (t : Tables) (left starts right : List ℕ) (s : State) (work : Working
 module _ (t : Tables) (c : ℕ) (side left starts right old right' old' : List ℕ) (s : State) (most : c ≤ most_words) (work : Working t left starts right s)
     (fits_c : length (plan_in left right s) ≤ c) (parity : s.made.even ≡ even? s.made.steps) (read_Some : 1 ≤ s.read)
     (accepted-next : length (next_with side left starts right s) ≤ most_words → words_refusal (actions t) (next_with side left starts right s) ≡ none) where
-  pub made-next : (s' : State) → Put c side left starts right old right' old' s (Step s')
+  pub made-next : (s' : State) → Put c side left starts right old right' old' s (Some s')
       → Next t c left right left starts right' old' s s' (next_with side left starts right s)
   made-next s' (put_in short-next written kept-words) =
       let st = start_here starts s in

@@ -3,6 +3,7 @@ use Prim.Native.Nat.{ℕ, ◌+◌, ◌-◌, ◌*◌, ◌≤◌}
 use native.Mathlib.Omega.{arith}
 use mathlib.Core.Path.{◌≡◌, refl, sym, ◌∙◌, subst}
 use mathlib.Core.List.{List}
+use Rattle.std.specs.Prelude.{Some, None, Option as Maybe}
 use lib.ListN.{length, take, drop, length-drop}
 use lib.Seq.{length-take-le}
 use Rattle.areas.specs.Area.{overwrite, most_words}
@@ -13,8 +14,6 @@ use Rattle.matching.specs.Right.{law_size, Reaches}
 use Rattle.matching.proofs.Sides.{spelled_law-length, law_size_bound}
 use Rattle.buffer.specs.declared.State.{State}
 use Rattle.steps.specs.Working.{Working, start_here, words_here, side_here, next_with, stepped_here, Subplan, Room, no_room, room, Put, too_long, put_in}
-use Rattle.steps.specs.declared.Replaced.{Replaced}
-use Rattle.steps.specs.declared.Replaced.TheVariants.{Step, TooLong}
 use Rattle.steps.proofs.Making.{read-long, start-before, next_long}
 
 -- room made: the words of the subplan are kept
@@ -25,7 +24,7 @@ module _ (c size : ℕ) (left starts old : List ℕ) (s : State) (h : Subplan le
       (omega (arith, length-drop (start_here starts s) left, h.begins, h.apart, h.rest_in, h.left_long))
 
   pub now_room : (old' : List ℕ) (r : State) → start_here starts s + size + (most_words - s.rest) ≤ c → length old ≡ most_words
-      → old' ≡ overwrite old 0 (words_here left starts s) → r ≡ stepped_here starts size s → Room c size left starts old old' s (Step r)
+      → old' ≡ overwrite old 0 (words_here left starts s) → r ≡ stepped_here starts size s → Room c size left starts old old' s (Some r)
   now_room old' r short long kept stepping =
       let e : 0 + length (words_here left starts s) ≡ s.read - start_here starts s = omega (arith, gone_long) in
       rw stepping
@@ -51,25 +50,25 @@ module _ (t : Tables) (left starts right : List ℕ) (s : State) (some_read : 1 
     next-size : length (next_with side left starts right s) ≡ start_here starts s + size + (most_words - s.rest)
     next-size = omega (arith, next_long t left starts right s work side some_read)
 
-    pub not_put : (old' : List ℕ) (r : Replaced) → Room c size left starts old old' s r → r ≡ TooLong → Put c side left starts right old right old' s TooLong
+    pub not_put : (old' : List ℕ) (r : Maybe State) → Room c size left starts old old' s r → r ≡ None → Put c side left starts right old right old' s None
     not_put old' r h e = go (subst (Room c size left starts old old' s) e h)
       where
-        go : Room c size left starts old old' s TooLong → Put c side left starts right old right old' s TooLong
+        go : Room c size left starts old old' s None → Put c side left starts right old right old' s None
         go (no_room l k) = too_long (omega (arith, next-size)) refl k
 
-    pub now_put : (right' old' : List ℕ) (r : Replaced) (s' : State) → Room c size left starts old old' s r → r ≡ Step s'
-        → right' ≡ overwrite right s'.rest side → Put c side left starts right old right' old' s (Step s')
+    pub now_put : (right' old' : List ℕ) (r : Maybe State) (s' : State) → Room c size left starts old old' s r → r ≡ Some s'
+        → right' ≡ overwrite right s'.rest side → Put c side left starts right old right' old' s (Some s')
     now_put right' old' r s' h e written = go (subst (Room c size left starts old old' s) e h) written
       where
-        go : {s' : State} → Room c size left starts old old' s (Step s') → right' ≡ overwrite right s'.rest side → Put c side left starts right old right' old' s (Step s')
+        go : {s' : State} → Room c size left starts old old' s (Some s') → right' ≡ overwrite right s'.rest side → Put c side left starts right old right' old' s (Some s')
         go (room l k) w = rw (← is_size) (put_in (omega (arith, next-size)) (rw is_size w) k)
 
     -- where they are put
-    pub front : (old' : List ℕ) (r : Replaced) (s' : State) → Room c size left starts old old' s r → r ≡ Step s'
+    pub front : (old' : List ℕ) (r : Maybe State) (s' : State) → Room c size left starts old old' s r → r ≡ Some s'
         → (s'.rest ≡ s.rest - size) × (start_here starts s + size + (most_words - s.rest) ≤ c)
     front old' r s' h e = go (subst (Room c size left starts old old' s) e h)
       where
-        go : {s' : State} → Room c size left starts old old' s (Step s') → (s'.rest ≡ s.rest - size) × (start_here starts s + size + (most_words - s.rest) ≤ c)
+        go : {s' : State} → Room c size left starts old old' s (Some s') → (s'.rest ≡ s.rest - size) × (start_here starts s + size + (most_words - s.rest) ≤ c)
         go (room l k) = (refl, l)
 
 -- a law's right side, by its letters

@@ -16,7 +16,9 @@ use Rattle.laws.specs.Step.{step}
 use Rattle.matching.specs.Start.{Readable, Ready}
 use Rattle.matching.specs.Right.{spelled_law}
 use Rattle.rewritings.specs.Roots.{law_term}
+use Rattle.matching.specs.declared.Letters.{Letters}
 use Rattle.matching.specs.Tried.{Tried, fails, fits}
+use Rattle.std.specs.Prelude.{Option as Maybe, Some, None}
 use Rattle.buffer.specs.declared.State.{State}
 use Rattle.buffer.proofs.Whole.{take_whole}
 use Rattle.steps.specs.Working.{plan_in, Working, Same, side_here, next_with}
@@ -49,15 +51,15 @@ module _ (t : Tables) (n : ℕ) (count : n ≡ actions t) (few : n ≤ 31) (left
       right-start : (k : ℕ) → k < s.read → get_or (take s.read starts) k 0 ≡ start_of (actions t) (take s.read left) k
       right-start k l = get_or-take s.read starts k 0 l ∙ work.held.starts_right k l
 
--- what a law that was tried gives, where the code asks whether it does not fit
-tried_fails : {t : Tables} {k : ℕ} {plan f g : List ℕ} {o : Option Term} {b : Bool} → Tried t k plan f g o b → not b ≡ true → o ≡ none
+-- what a law that was tried gives
+tried_fails : {t : Tables} {k : ℕ} {plan : List ℕ} {o : Option Term} {r : Maybe Letters} → Tried t k plan o r → r ≡ None → o ≡ none
 tried_fails fails e = refl
-tried_fails (fits v s) e = cc
+tried_fails (fits v l r s) e = cc
 
-tried_fits : {t : Tables} {k : ℕ} {plan f g : List ℕ} {o : Option Term} {b : Bool} → Tried t k plan f g o b → not b ≡ false
-    → (v : Term) × (o ≡ some v) × (spelled_law t k plan f g ≡ words v)
-tried_fits fails e = let q : ◌≡◌ {A = ℕ} 0 1 = cc in absurd (omega (arith, q))
-tried_fits (fits v s) e = (v, refl, s)
+tried_fits : {t : Tables} {k : ℕ} {plan : List ℕ} {o : Option Term} {r : Maybe Letters} (l : Letters) → Tried t k plan o r → r ≡ Some l
+    → (v : Term) × (o ≡ some v) × (spelled_law t k plan l.from l.to ≡ words v)
+tried_fits l fails e = cc
+tried_fits l (fits v l' r s) e = let same : l' ≡ l = cc in (v, refl, rw (← same) s)
 
 -- the state s₀ at entry, and s with the word at the place read last
 module _ (t : Tables) (law place : ℕ) (left₀ starts₀ right₀ : List ℕ) (s₀ : State) (n : ℕ) (count : n ≡ actions t) (left starts right : List ℕ) (s : State)
@@ -81,9 +83,10 @@ module _ (t : Tables) (law place : ℕ) (left₀ starts₀ right₀ : List ℕ) 
       rw (spells, next_is t left starts right s m.working (words v) (omega (arith, there)))
       (at_place (last_fits t (take s.read left) (drop s.rest right) filled law v (rw count at gives)))
 
-  module _ (f g : List ℕ) (b : Bool) (tried : Tried t law (take s.read left) f g (law_term t n law (take s.read left)) b) where
-    pub step_none : not b ≡ true → step t law place (plan_in left₀ right₀ s₀) ≡ none
+  module _ (r : Maybe Letters) (tried : Tried t law (take s.read left) (law_term t n law (take s.read left)) r) where
+    pub step_none : r ≡ None → step t law place (plan_in left₀ right₀ s₀) ≡ none
     step_none e = at_place (last-fails t (take s.read left) (drop s.rest right) filled law (rw count at (tried_fails tried e)))
 
-    pub step_some : not b ≡ false → step t law place (plan_in left₀ right₀ s₀) ≡ some (next_with (side_here t law left f g s) left starts right s)
-    step_some e = let v = tried_fits tried e in fitted f g v.0 v.1 v.2
+    pub step_some : (l : Letters) → r ≡ Some l
+        → step t law place (plan_in left₀ right₀ s₀) ≡ some (next_with (side_here t law left l.from l.to s) left starts right s)
+    step_some l e = let v = tried_fits l tried e in fitted l.from l.to v.0 v.1 v.2

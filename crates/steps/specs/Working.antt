@@ -1,5 +1,5 @@
 -- Nobody need believe this: contracts of functions cite it. A plan under work between two steps, and what the functions on it answer.
-use Rattle.std.specs.Prelude.{ℕ, ◌+◌, ◌-◌, ◌≤◌, ◌<◌, ◌≡◌, List, ◌++◌, length, get_or, take, drop}
+use Rattle.std.specs.Prelude.{ℕ, ◌+◌, ◌-◌, ◌≤◌, ◌<◌, ◌≡◌, List, ◌++◌, length, get_or, take, drop, Some, None, Option as Maybe, Result, Ok, Err}
 use Rattle.std.proofs.Math.Option.{Option, none, some}
 use Rattle.areas.specs.Area.{overwrite, most_words}
 use Rattle.tables.specs.Tables.{Tables, actions}
@@ -8,10 +8,14 @@ use Rattle.matching.specs.Right.{spelled_law}
 use Rattle.areas.specs.Storing.{before, Kept}
 use Rattle.buffer.specs.declared.State.{State}
 use Rattle.buffer.specs.Buffer.{whole, Held, stepped}
-use Rattle.steps.specs.declared.Replaced.{Replaced}
-use Rattle.steps.specs.declared.Replaced.TheVariants.{Step, TooLong}
-use Rattle.steps.specs.declared.Attempt.{Attempt}
-use Rattle.steps.specs.declared.Attempt.TheVariants.{Done, Fails, Long}
+use Rattle.steps.specs.declared.Fault.{Fault}
+use Rattle.steps.specs.declared.Fault.TheVariants.{DoesNotFit, TooLong}
+use Rattle.steps.specs.declared.NotMade.{NotMade}
+
+-- "31 law doesn't fit at that place, or the place is past the end. 32 next plan longer than C."
+abbrev pub fault_number : Fault → ℕ
+fault_number DoesNotFit = 31
+fault_number TooLong = 32
 
 -- the plan under work
 abbrev pub plan_in : List ℕ → List ℕ → State → List ℕ
@@ -64,24 +68,31 @@ pub record Subplan (left starts : List ℕ) (s : State) : Type 0 where
   pub begins : start_here starts s < s.read
 
 -- room made for so many words in place of that subplan, whose words are kept, unless the plan would have more than c words
-pub data Room (c size : ℕ) (left starts old old' : List ℕ) (s : State) : Replaced → Type 0 where
-  no_room : c < start_here starts s + size + (most_words - s.rest) → old' ≡ old → Room c size left starts old old' s TooLong
+pub data Room (c size : ℕ) (left starts old old' : List ℕ) (s : State) : Maybe State → Type 0 where
+  no_room : c < start_here starts s + size + (most_words - s.rest) → old' ≡ old → Room c size left starts old old' s None
   room : start_here starts s + size + (most_words - s.rest) ≤ c → take (s.read - start_here starts s) old' ≡ words_here left starts s
-      → Room c size left starts old old' s (Step (stepped_here starts size s))
+      → Room c size left starts old old' s (Some (stepped_here starts size s))
 
 -- words put in there, unless the plan would have more than c words
-pub data Put (c : ℕ) (side left starts right old right' old' : List ℕ) (s : State) : Replaced → Type 0 where
-  too_long : c < length (next_with side left starts right s) → right' ≡ right → old' ≡ old → Put c side left starts right old right' old' s TooLong
+pub data Put (c : ℕ) (side left starts right old right' old' : List ℕ) (s : State) : Maybe State → Type 0 where
+  too_long : c < length (next_with side left starts right s) → right' ≡ right → old' ≡ old → Put c side left starts right old right' old' s None
   put_in : length (next_with side left starts right s) ≤ c
       → right' ≡ overwrite right (s.rest - length side) side
       → take (s.read - start_here starts s) old' ≡ words_here left starts s
-      → Put c side left starts right old right' old' s (Step (stepped_here starts (length side) s))
+      → Put c side left starts right old right' old' s (Some (stepped_here starts (length side) s))
+
+-- the word at a place is sought: past the plan's end nothing is moved; else it is the last one read
+pub data Sought (t : Tables) (place : ℕ) (left starts right left' starts' right' : List ℕ) (s : State) : Result State NotMade → Type 0 where
+  past : length (plan_in left right s) ≤ place → left' ≡ left → starts' ≡ starts → right' ≡ right
+      → Sought t place left starts right left' starts' right' s (Err (record { fault = DoesNotFit; state = s }))
+  here : (s' : State) → place < length (plan_in left right s) → Same t left starts right left' starts' right' s s' → s'.read ≡ place + 1
+      → Sought t place left starts right left' starts' right' s (Ok s')
 
 -- one step of a rewriting, of either direction, that gives the plan `next` or does not fit: it is made, or does not fit, or gives too long a plan
-pub data Stepping (t : Tables) (next : Option (List ℕ)) (c : ℕ) (left starts right old left' starts' right' old' : List ℕ) (s : State) : Attempt → Type 0 where
+pub data Stepping (t : Tables) (next : Option (List ℕ)) (c : ℕ) (left starts right old left' starts' right' old' : List ℕ) (s : State) : Result State NotMade → Type 0 where
   done : (s' : State) (w : List ℕ) → next ≡ some w → length w ≤ c
-      → Next t c left right left' starts' right' old' s s' w → Stepping t next c left starts right old left' starts' right' old' s (Done s')
+      → Next t c left right left' starts' right' old' s s' w → Stepping t next c left starts right old left' starts' right' old' s (Ok s')
   fails : (s' : State) → next ≡ none → Same t left starts right left' starts' right' s s' → old' ≡ old
-      → Stepping t next c left starts right old left' starts' right' old' s (Fails s')
+      → Stepping t next c left starts right old left' starts' right' old' s (Err (record { fault = DoesNotFit; state = s' }))
   long : (s' : State) (w : List ℕ) → next ≡ some w → c < length w
-      → Same t left starts right left' starts' right' s s' → old' ≡ old → Stepping t next c left starts right old left' starts' right' old' s (Long s')
+      → Same t left starts right left' starts' right' s s' → old' ≡ old → Stepping t next c left starts right old left' starts' right' old' s (Err (record { fault = TooLong; state = s' }))

@@ -7,7 +7,7 @@ ghost use Rattle.tables.specs.Tables.{actions};
 ghost use Rattle.tables.specs.Lawful.{Lawful};
 ghost use Rattle.matching.specs.Right.{Reaches};
 ghost use Rattle.areas.specs.Storing.{Kept};
-ghost use Rattle.steps.specs.Working.{plan_in, Working, Same, Subplan, Room, Put, side_here, Stepping};
+ghost use Rattle.steps.specs.Working.{plan_in, Working, Same, Subplan, Room, Put, side_here, Sought, Stepping, fault_number};
 ghost use Rattle.plans.specs.Judging.{words_refusal};
 ghost use Rattle.laws.specs.Step.{step, step_back};
 ghost use Rattle.areas.specs.Area.{most_words};
@@ -15,20 +15,32 @@ ghost use Rattle.laws.specs.Laws.{highest_law};
 
 use areas::MOST_WORDS;
 use buffer::State;
+use matching::Letters;
 
-// A subplan replaced by other words: the state after the step, or that the next plan would be too long.
-#[derive(Clone, Copy)]
-pub enum Replaced {
-    Step(State),
+// Why a step is not made: the law does not fit at the place, or the next plan would be too long.
+#[derive(Clone, Copy, Debug, PartialEq, Eq)]
+pub enum Fault {
+    DoesNotFit,
     TooLong,
 }
 
-// One step of a rewriting: made; or the law does not fit at the place; or the next plan would be too long. With the state then.
+impl Fault {
+    // The number by which the documents name it.
+    pub fn number(self) -> u8
+        ensures { result ≡ fault_number self }
+    {
+        match self {
+            Fault::DoesNotFit => 31,
+            Fault::TooLong => 32,
+        }
+    }
+}
+
+// A step that is not made: why, and the state then, which holds the same plan.
 #[derive(Clone, Copy)]
-pub enum Attempt {
-    Done(State),
-    Fails(State),
-    Long(State),
+pub struct NotMade {
+    pub fault: Fault,
+    pub state: State,
 }
 
 // Makes room for so many words in place of the subplan at the last word read, unless the plan would have more than limit words: the state after the
@@ -40,20 +52,19 @@ fn make_room(
     state: State,
     size: usize,
     limit: usize,
-) -> Replaced
+) -> Option<State>
     requires size_bound { (size ≤ 11 * most_words) × (limit ≤ most_words) × (state.made.steps < 18446744073709551615) × (length old.old ≡ most_words) }
     requires subplan { Subplan left.now starts.now state }
     ensures { Room limit size left.now starts.now old.old old.new state result }
 {
-    let read = state.read;
-    let rest = state.rest;
-    let start = starts[read - 1] as usize;
+    let State { read, rest, .. } = state;
+    let start = usize::from(starts[read - 1]);
     let gone = read - start;
     if limit < start + size + (MOST_WORDS - rest) {
-        return Replaced::TooLong;
+        return None;
     }
     areas::copy_in(&left[start..read], old, 0);
-    Replaced::Step(state.after_step(start, gone, size, rest - size))
+    Some(state.after_step(start, gone, size, rest - size))
 }
 
 // Puts the right side of a law that fits at the last word read in place of the subplan there, unless the plan would have more than limit words.
@@ -64,28 +75,20 @@ pub fn put_side(
     starts: &[u16],
     right: &mut [u8],
     old: &mut [u8],
-    from: &[u16],
-    to: &[u16],
+    letters: &Letters,
     state: State,
     limit: usize,
-) -> Replaced
+) -> Option<State>
     requires le_law { (1 ≤ law) × (law ≤ highest_law) × (limit ≤ most_words) × (state.made.steps < 18446744073709551615) }
     requires le_read { (1 ≤ state.read) × Working tables.now left.now starts.now right.old state
-        × Reaches (take state.read left.now) from.now to.now × (length old.old ≡ most_words) }
-    ensures { Put limit (side_here tables.now law left.now from.now to.now state)
+        × Reaches (take state.read left.now) letters.now.from letters.now.to × (length old.old ≡ most_words) }
+    ensures { Put limit (side_here tables.now law left.now letters.now.from letters.now.to state)
         left.now starts.now right.old old.old right.new old.new state result }
 {
-    let read = state.read;
-    let size = matching::right_len(law, from, to);
-    let room = make_room(left, starts, old, state, size, limit);
-    match room {
-        Replaced::TooLong => Replaced::TooLong,
-        Replaced::Step(next) => {
-            let front = next.rest;
-            matching::put_side(law, tables, &left[..read], from, to, right, front);
-            Replaced::Step(next)
-        }
-    }
+    let size = matching::right_len(law, letters);
+    let next = make_room(left, starts, old, state, size, limit)?;
+    matching::put_side(law, tables, &left[..state.read], letters, right, next.rest);
+    Some(next)
 }
 
 // Puts words in place of the subplan at the last word read, unless the plan would have more than limit words.
@@ -98,21 +101,15 @@ pub fn put_words(
     old: &mut [u8],
     state: State,
     limit: usize,
-) -> Replaced
+) -> Option<State>
     requires words_len_bound { (length words.now ≤ most_words) × (limit ≤ most_words) × (state.made.steps < 18446744073709551615) }
     requires le_read { (1 ≤ state.read) × Working tables.now left.now starts.now right.old state × (length old.old ≡ most_words) }
     ensures { Put limit words.now
         left.now starts.now right.old old.old right.new old.new state result }
 {
-    let room = make_room(left, starts, old, state, words.len(), limit);
-    match room {
-        Replaced::TooLong => Replaced::TooLong,
-        Replaced::Step(next) => {
-            let front = next.rest;
-            areas::copy_in(words, right, front);
-            Replaced::Step(next)
-        }
-    }
+    let next = make_room(left, starts, old, state, words.len(), limit)?;
+    areas::copy_in(words, right, next.rest);
+    Some(next)
 }
 
 // Moves the gap forward until the word at a place is the last one read.
@@ -131,14 +128,11 @@ pub fn forward_to(
         left.new starts.new right.now state result
         × (result.read ≡ place + 1) }
 {
-    let mut read = state.read;
-    let mut rest = state.rest;
-    while read <= place {
-        buffer::forward(n, &mut *left, &mut *starts, right, read, rest);
-        read += 1;
-        rest += 1;
+    let gap = state.rest - state.read;
+    for read in state.read..place + 1 {
+        buffer::forward(n, left, starts, right, read, gap + read);
     }
-    state.moved_to(read, rest)
+    state.moved_to(place + 1, gap + place + 1)
 }
 
 // Moves the gap back until the word at a place is the last one read.
@@ -155,14 +149,7 @@ pub fn back_to(
         left.now starts.now right.new state result
         × (result.read ≡ place + 1) }
 {
-    let mut read = state.read;
-    let mut rest = state.rest;
-    while place + 1 < read {
-        buffer::back(left, &mut *right, read, rest);
-        read -= 1;
-        rest -= 1;
-    }
-    state.moved_to(read, rest)
+    buffer::back(left, right, state, place + 1)
 }
 
 // Moves the gap until the word at a place is the last one read.
@@ -188,6 +175,29 @@ pub fn seek(
     }
 }
 
+// Moves the gap until the word at a place is the last one read; past the plan's end no law fits.
+fn seek_within(
+    n: u8,
+    tables: &[u8],
+    left: &mut [u8],
+    starts: &mut [u16],
+    right: &mut [u8],
+    state: State,
+    place: usize,
+) -> Result<State, NotMade>
+    requires { (n ≡ actions tables.now) × (n ≤ 31) × Working tables.now left.old starts.old right.old state }
+    ensures { Sought tables.now place left.old starts.old right.old left.new starts.new right.new state result }
+{
+    let size = state.read + (MOST_WORDS - state.rest);
+    if size <= place {
+        return Err(NotMade {
+            fault: Fault::DoesNotFit,
+            state,
+        });
+    }
+    Ok(seek(n, tables, left, starts, right, state, place))
+}
+
 // Makes law `law` at a place, if it fits there and the next plan has at most limit words.
 pub fn make_step(
     tables: &[u8],
@@ -200,7 +210,7 @@ pub fn make_step(
     old: &mut [u8],
     state: State,
     limit: usize,
-) -> Attempt
+) -> Result<State, NotMade>
     requires n_value { (n ≡ actions tables.now) × Lawful tables.now × (1 ≤ law) × (law ≤ highest_law) }
     requires limit_le_most_words { (limit ≤ most_words) × (state.made.steps < 18446744073709551615) × (length old.old ≡ most_words) }
     requires working { Working tables.now left.old starts.old right.old state × Kept limit (plan_in left.old right.old state) old.old state.made }
@@ -209,48 +219,21 @@ pub fn make_step(
         left.old starts.old right.old old.old
         left.new starts.new right.new old.new state result }
 {
-    let size = state.read + (MOST_WORDS - state.rest);
-    if size <= place {
-        return Attempt::Fails(state);
-    }
-    let there = seek(
-        n,
-        tables,
-        &mut *left,
-        &mut *starts,
-        &mut *right,
-        state,
-        place,
-    );
+    let there = seek_within(n, tables, left, starts, right, state, place)?;
     let read = there.read;
-    let mut from = [0u16; 7];
-    let mut to = [0u16; 7];
-    if !matching::law_fits(
-        law,
-        tables,
-        n,
-        &left[..read],
-        &starts[..read],
-        &mut from,
-        &mut to,
-    ) {
-        return Attempt::Fails(there);
-    }
-    match put_side(
-        law,
-        tables,
-        &*left,
-        &*starts,
-        &mut *right,
-        &mut *old,
-        &from,
-        &to,
-        there,
-        limit,
-    ) {
-        Replaced::Step(next) => Attempt::Done(next),
-        Replaced::TooLong => Attempt::Long(there),
-    }
+    let Some(letters) = matching::law_fits(law, tables, n, &left[..read], &starts[..read]) else {
+        return Err(NotMade {
+            fault: Fault::DoesNotFit,
+            state: there,
+        });
+    };
+    put_side(
+        law, tables, left, starts, right, old, &letters, there, limit,
+    )
+    .ok_or(NotMade {
+        fault: Fault::TooLong,
+        state: there,
+    })
 }
 
 // Makes law `law` backwards at a place with the words of a left side, if the law makes of these the subplan there and the next plan has at most limit
@@ -267,7 +250,7 @@ pub fn step_back(
     old: &mut [u8],
     state: State,
     limit: usize,
-) -> Attempt
+) -> Result<State, NotMade>
     requires n_value { (n ≡ actions tables.now) × Lawful tables.now × (1 ≤ law) × (law ≤ highest_law) × (words_refusal n carried.now ≡ none) }
     requires limit_le_most_words { (limit ≤ most_words) × (state.made.steps < 18446744073709551615) × (length old.old ≡ most_words) }
     requires working { Working tables.now left.old starts.old right.old state × Kept limit (plan_in left.old right.old state) old.old state.made }
@@ -276,22 +259,9 @@ pub fn step_back(
         left.old starts.old right.old old.old
         left.new starts.new right.new old.new state result }
 {
-    let total = state.read + (MOST_WORDS - state.rest);
-    if total <= place {
-        return Attempt::Fails(state);
-    }
-    let there = seek(
-        n,
-        tables,
-        &mut *left,
-        &mut *starts,
-        &mut *right,
-        state,
-        place,
-    );
-    let read = there.read;
-    let rest = there.rest;
-    let start = starts[read - 1] as usize;
+    let there = seek_within(n, tables, left, starts, right, state, place)?;
+    let State { read, rest, .. } = there;
+    let start = usize::from(starts[read - 1]);
     // the words before the rest hold nothing, and there are as many as are read at least
     if !matching::law_gives(
         law,
@@ -301,19 +271,13 @@ pub fn step_back(
         &mut right[..rest],
         &left[start..read],
     ) {
-        return Attempt::Fails(there);
+        return Err(NotMade {
+            fault: Fault::DoesNotFit,
+            state: there,
+        });
     }
-    match put_words(
-        carried,
-        tables,
-        &*left,
-        &*starts,
-        &mut *right,
-        &mut *old,
-        there,
-        limit,
-    ) {
-        Replaced::Step(next) => Attempt::Done(next),
-        Replaced::TooLong => Attempt::Long(there),
-    }
+    put_words(carried, tables, left, starts, right, old, there, limit).ok_or(NotMade {
+        fault: Fault::TooLong,
+        state: there,
+    })
 }

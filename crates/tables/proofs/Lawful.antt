@@ -1,7 +1,8 @@
 -- Tables are accepted exactly when they are well formed and meet the published laws of communication and of priority: part by part, and then together.
+use Rattle.std.specs.Prelude.{Result, Ok, ⊤}
 use Prim.Native.Nat.{ℕ, ◌≤◌, ◌<◌, ◌+◌}
 use native.Mathlib.Omega.{arith}
-use mathlib.Core.Path.{◌≡◌, refl, sym, ◌∙◌, ap}
+use mathlib.Core.Path.{◌≡◌, refl, sym, ◌∙◌}
 use mathlib.Core.Bool.{Bool, true, false, not, ◌&&◌, ◌||◌}
 use mathlib.Core.Option.{Option, none}
 use mathlib.Core.Logic.{◌↔◌}
@@ -9,13 +10,11 @@ use lib.Dec.{eqb, leb, ltb}
 use lib.ListN.{length}
 use borrow.Author.Tests.{eqb-true, eq-eqb, leb-true, leb-false, le-leb, ltb-true, lt-ltb}
 use Rattle.refusals.specs.declared.Refusal.{Refusal}
-use Rattle.refusals.specs.declared.Judgement.{Judgement}
-use Rattle.refusals.specs.declared.Judgement.TheVariants.{Accepted}
 use Rattle.refusals.specs.Refusal.{judged}
 use Rattle.tables.specs.Tables.{Tables, tables_length, most_actions, row_length, set_count, communication_at, priority_at, sets_at, entry_of, marked, actions, communication, below}
 use Rattle.tables.specs.Judging.{entry_right, byte_right, set_right, null_right, swap_right, group_right, least_right, order_right, communication_entries, priority_entries, set_entries, communication_refusal, order_refusal, shared_refusal, content_with, content_refusal, table_refusal}
 use Rattle.tables.specs.Lawful.{InRange, ZeroRows, ZeroColumns, ZeroFirst, Communication, Priority, Lawful}
-use Rattle.tables.proofs.Answers.{accepted}
+use Rattle.refusals.proofs.Judging.{accepts_iff}
 use Rattle.tables.proofs.Passing.{AtEntries, AtTriples, all_met, entries_met, triples_met, and_then, counted, measured}
 
 -- one equivalence behind another
@@ -306,8 +305,5 @@ accepted_iff_lawful t = (
 )
 
 -- and so is a call that answers by them
-pub answers_lawful : (t : Tables) (r : Judgement) → r ≡ judged (table_refusal t) → (r ≡ Accepted) ↔ Lawful t
-answers_lawful t r e = (
-  λ h. (accepted_iff_lawful t).0 (accepted (table_refusal t) e h),
-  λ l. e ∙ ap judged ((accepted_iff_lawful t).1 l),
-)
+pub answers_lawful : (t : Tables) (r : Result ⊤ Refusal) → r ≡ judged (table_refusal t) → (r ≡ Ok tt) ↔ Lawful t
+answers_lawful t r e = accepts_iff (table_refusal t) r (Lawful t) e (accepted_iff_lawful t)

@@ -1,5 +1,4 @@
 mod Searching
-mod Answers
 mod Passing
 pub mod Lawful
 pub mod Actions

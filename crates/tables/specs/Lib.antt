@@ -2,4 +2,3 @@ pub mod Search
 pub mod Tables
 pub mod Judging
 pub mod Lawful
-pub mod Condition

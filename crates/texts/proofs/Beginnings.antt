@@ -1,4 +1,6 @@
 -- How a unit begins, in the words of the code: the rules at the places of a text.
+use Rattle.std.specs.Prelude.{Ok, Err}
+use Rattle.refusals.specs.declared.Reason.TheVariants.{TooDeep}
 use Prim.Native.Nat.{ℕ, suc, ◌+◌, ◌*◌, ◌≤◌, ◌<◌}
 use native.Mathlib.Omega.{arith}
 use native.Mathlib.Numerals.{add-one}
@@ -12,8 +14,8 @@ use borrow.Author.Tests.{ltb-true, ltb-false}
 use Rattle.grammar.specs.declared.Bracket.{Bracket}
 use Rattle.grammar.specs.declared.Bracket.TheVariants.{Plain, OfPriority, OfSet}
 use Rattle.grammar.specs.Character.{opening, tee, aitch}
-use Rattle.texts.specs.Readers.{UnitStops, Enters, next_is, next_numeral, SetSmall, opened, Acts, BegunRight}
-use Rattle.texts.specs.declared.units.Begun.TheVariants.{Opened, Stopped}
+use Rattle.texts.specs.Readers.{UnitStops, Enters, next_is, next_numeral, SetSmall, opened, no_text, Acts, BegunRight}
+use Rattle.texts.specs.declared.units.Begun.TheVariants.{Opened}
 use Rattle.texts.proofs.Rules.{DigitsRead, number-begins, number-goes-on, number-above, number_grows_above, number-nought, number-ends, unit_sticks, unit_missing, bracket-enters, priority-enters, set-enters, bracket-deep, priority-deep, set-deep, tee-alone, aitch-alone, set-alone}
 use Rattle.texts.proofs.Next.{is_there, numeral_is_there, numeral_small}
 
@@ -73,14 +75,14 @@ module _ (n d : ℕ) (text : List ℕ) (q : ℕ) where
       → BegunRight n d text q (opened text f d b)
   bracketed b f l h i enters deep alone = tested (next_is opening (drop f text)) refl
     where
-      open_at : next_is opening (drop f text) ≡ true → (t : Bool) → ltb d 200 ≡ t → BegunRight n d text q (cond t (Opened b (f + 1)) (Stopped 62 f))
+      open_at : next_is opening (drop f text) ≡ true → (t : Bool) → ltb d 200 ≡ t → BegunRight n d text q (cond t (Ok (Opened b (f + 1))) (Err (record { reason = TooDeep; place = f })))
       open_at e true g =
           let s = is_there text f opening e in
           rw (add-one f) (record { enters = enters s.left (ltb-true d 200 g); set_small = i; shallow = ltb-true d 200 g; on = omega arith; inside = s.inside })
       open_at e false g = deep (is_there text f opening e).left (omega (arith, ltb-false d 200 g))
 
       tested : (t : Bool) → next_is opening (drop f text) ≡ t
-          → BegunRight n d text q (cond t (cond (ltb d 200) (Opened b (f + 1)) (Stopped 62 f)) (Stopped 61 f))
+          → BegunRight n d text q (cond t (cond (ltb d 200) (Ok (Opened b (f + 1))) (Err (record { reason = TooDeep; place = f }))) (Err (no_text f)))
       tested true e = open_at e (ltb d 200) refl
       tested false e = alone e
 

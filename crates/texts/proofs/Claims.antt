@@ -1,4 +1,5 @@
 -- The claims about reading a text hold of its outcome.
+use Rattle.std.specs.Prelude.{Result, Ok, Err}
 use Prim.Native.Nat.{ℕ, ◌-◌, ◌≤◌, ◌<◌}
 use native.Mathlib.Omega.{arith}
 use mathlib.Core.Path.{◌≡◌, refl, sym, ap, ◌∙◌, subst}
@@ -25,7 +26,6 @@ use Rattle.grammar.proofs.Complete.{one_plan_only}
 use Rattle.grammar.proofs.Exact.{read_exactly}
 use Rattle.grammar.proofs.Places.{refused_exactly}
 use Rattle.grammar.proofs.Shallow.{plan-typed}
-use Rattle.texts.specs.declared.TextRead.TheVariants.{Read, Refused}
 use Rattle.texts.specs.Text.{TextOutcome, refused_outcome, read_outcome, text_outcome}
 use Rattle.texts.specs.Claims.{IsRead, TooLong, EnoughLevels, Ended, TextClaims}
 use Rattle.texts.specs.Claims as claims
@@ -35,10 +35,10 @@ use Rattle.texts.proofs.Outcomes.{outcome-tables, outcome-fault, outcome-read, o
 answers : {o o' : TextOutcome} → o ≡ o' → o.answer ≡ o'.answer
 answers e = ap (λ (o : TextOutcome). o.answer) e
 
-read-refused : {C : Type 0} {size : ℕ} {r : Refusal} → Read size ≡ Refused r → C
+read-refused : {C : Type 0} {size : ℕ} {r : Refusal} → Ok size ≡ Err r → C
 read-refused e = let z : ◌≡◌ {A = ℕ} 0 1 = cc in absurd (omega arith)
 
-same_refusal : {r s : Refusal} → Refused r ≡ Refused s → r ≡ s
+same_refusal : {r s : Refusal} → ◌≡◌ {A = Result ℕ Refusal} (Err r) (Err s) → r ≡ s
 same_refusal e = cc
 
 byte_nowhere : {C : Type 0} {q : ℕ} → Byte q ≡ Nowhere → C
@@ -47,7 +47,7 @@ byte_nowhere e = let z : ◌≡◌ {A = ℕ} 0 1 = cc in absurd (omega arith)
 same_byte : {p q : ℕ} → Byte p ≡ Byte q → p ≡ q
 same_byte e = cc
 
-same_size : {i j : ℕ} → Read i ≡ Read j → i ≡ j
+same_size : {i j : ℕ} → ◌≡◌ {A = Result ℕ Refusal} (Ok i) (Ok j) → i ≡ j
 same_size e = cc
 
 -- an area tells the plan in it, by the plan's length

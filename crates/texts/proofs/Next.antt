@@ -1,7 +1,8 @@
 -- What stands at a place of a text, by the text that is left there.
+use Rattle.std.specs.Prelude.{⊤, Result, Ok, Err, Some, None}
 use Prim.Native.Nat.{ℕ, suc, ◌+◌, ◌-◌, ◌≤◌, ◌<◌}
 use native.Mathlib.Omega.{arith}
-use mathlib.Core.Path.{◌≡◌, refl, ◌∙◌, subst}
+use mathlib.Core.Path.{◌≡◌, refl, sym, ◌∙◌, subst}
 use mathlib.Core.Bool.{Bool, true, false, cond, ◌&&◌}
 use mathlib.Core.List.{List, ◌∷◌}
 use mathlib.Core.Option.{Option, none, some, some-injective}
@@ -12,9 +13,8 @@ use borrow.Author.Tests.{eqb-true, le-leb, lt-leb, ltb-true, ltb-false, leb-true
 use Rattle.plans.specs.declared.Binary.{Binary}
 use Rattle.grammar.specs.Character.{nought}
 use Rattle.grammar.specs.States.{numeral, between_of}
-use Rattle.texts.specs.declared.characters.Numeral.TheVariants.{Value, NoNumeral}
-use Rattle.texts.specs.declared.characters.MaybeSign.TheVariants.{Sign, NoSign}
-use Rattle.texts.specs.Readers.{next_is, next_numeral, next_between, numeral_found, sign_found}
+use Rattle.texts.specs.declared.units.Fault.{Fault}
+use Rattle.texts.specs.Readers.{next_is, next_numeral, next_between, numeral_found, sign_found, no_text, expected}
 
 module _ (text : List ℕ) (q : ℕ) where
   pub next-there : (c : ℕ) → q < length text → eqb (get_or text q 0) c ≡ next_is c (drop q text)
@@ -36,35 +36,57 @@ module _ (text : List ℕ) (q : ℕ) where
   between_past h = rw (drop_of_length-le text {i = q} h)
 
 -- a character as a digit up to m
-pub numeral_value : (m c : ℕ) → nought ≤ c → c ≤ nought + m → Value (c - nought) ≡ numeral_found (numeral m c)
+pub numeral_value : (m c : ℕ) → nought ≤ c → c ≤ nought + m → Some (c - nought) ≡ numeral_found (numeral m c)
 numeral_value m c h l = rw (le-leb nought c h, le-leb c (nought + m) l)
 
-pub numeral_high : (m c : ℕ) → nought + m < c → NoNumeral ≡ numeral_found (numeral m c)
+pub numeral_high : (m c : ℕ) → nought + m < c → None ≡ numeral_found (numeral m c)
 numeral_high m c h = rw (lt-leb c (nought + m) h) (either (leb nought c))
   where
-    either : (b : Bool) → NoNumeral ≡ numeral_found (cond (b && false) (some (c - nought)) none)
+    either : (b : Bool) → None ≡ numeral_found (cond (b && false) (some (c - nought)) none)
     either true = refl
     either false = refl
 
-pub numeral_low : (m c : ℕ) → c < nought → NoNumeral ≡ numeral_found (numeral m c)
+pub numeral_low : (m c : ℕ) → c < nought → None ≡ numeral_found (numeral m c)
 numeral_low m c h = rw (lt-leb nought c h)
 
 -- what is found, taken back
-pub found_value : {d : ℕ} (m : Option ℕ) → numeral_found m ≡ Value d → m ≡ some d
+pub found_value : {d : ℕ} (m : Option ℕ) → numeral_found m ≡ Some d → m ≡ some d
 found_value none e = let z : ◌≡◌ {A = ℕ} 0 1 = cc in absurd (omega arith)
 found_value (some a) e = cc
 
-pub found_none : (m : Option ℕ) → numeral_found m ≡ NoNumeral → m ≡ none
+pub found_none : (m : Option ℕ) → numeral_found m ≡ None → m ≡ none
 found_none none e = refl
 found_none (some a) e = let z : ◌≡◌ {A = ℕ} 0 1 = cc in absurd (omega arith)
 
-pub found_sign : {o : Binary} (m : Option Binary) → sign_found m ≡ Sign o → m ≡ some o
+pub found_sign : {o : Binary} (m : Option Binary) → sign_found m ≡ Some o → m ≡ some o
 found_sign none e = let z : ◌≡◌ {A = ℕ} 0 1 = cc in absurd (omega arith)
 found_sign (some a) e = cc
 
-pub found_no_sign : (m : Option Binary) → sign_found m ≡ NoSign → m ≡ none
+pub found_no_sign : (m : Option Binary) → sign_found m ≡ None → m ≡ none
 found_no_sign none e = refl
 found_no_sign (some a) e = let z : ◌≡◌ {A = ℕ} 0 1 = cc in absurd (omega arith)
+
+abbrev told_at : ℕ → Bool → Result ⊤ Fault
+told_at q b = cond b (Ok tt) (Err (no_text q))
+
+-- a character that was demanded stands there, or not
+pub met : (c q : ℕ) (text : List ℕ) {r : Result ⊤ Fault} {u : ⊤} → r ≡ expected c q text → r ≡ Ok u → next_is c (drop q text) ≡ true
+met c q text {r} {u} e f = tested (next_is c (drop q text)) refl (sym f ∙ e)
+  where
+    tested : (b : Bool) → next_is c (drop q text) ≡ b → Ok u ≡ told_at q b → next_is c (drop q text) ≡ true
+    tested true h i = h
+    tested false h i = let z : ◌≡◌ {A = ℕ} 0 1 = cc in absurd (omega arith)
+
+pub record Missing (c q : ℕ) (text : List ℕ) (e : Fault) : Type 0 where
+  pub none_there : next_is c (drop q text) ≡ false
+  pub fault : e ≡ no_text q
+
+pub missing : (c q : ℕ) (text : List ℕ) {r : Result ⊤ Fault} {e : Fault} → r ≡ expected c q text → r ≡ Err e → Missing c q text e
+missing c q text {r} {e} f g = tested (next_is c (drop q text)) refl (sym g ∙ f)
+  where
+    tested : (b : Bool) → next_is c (drop q text) ≡ b → Err e ≡ told_at q b → Missing c q text e
+    tested true h i = let z : ◌≡◌ {A = ℕ} 0 1 = cc in absurd (omega arith)
+    tested false h i = record { none_there = h; fault = cc }
 
 -- a character that stands at a place: what is left there, and behind it
 pub record Stands (text : List ℕ) (q c : ℕ) : Type 0 where

@@ -1,4 +1,5 @@
 -- What reading a text answers and leaves, by what was found.
+use Rattle.std.specs.Prelude.{Ok}
 use Prim.Native.Nat.{ℕ, ◌≤◌, ◌<◌}
 use native.Mathlib.Omega.{arith}
 use mathlib.Core.Path.{◌≡◌, refl, sym, ap, ◌∙◌}
@@ -16,7 +17,6 @@ use Rattle.areas.specs.Area.{most_words, padded}
 use Rattle.tables.specs.Tables.{Tables, actions}
 use Rattle.tables.specs.Judging.{table_refusal}
 use Rattle.grammar.specs.Reading.{Parse, Plan, Fault, read_text}
-use Rattle.texts.specs.declared.TextRead.TheVariants.{Read}
 use Rattle.texts.specs.Text.{found_refusal, plan_of, text_refusal, TextOutcome, refused_outcome, read_outcome, unless_refused, text_outcome, text_report, text_reported}
 use Rattle.texts.specs.Readers.{ReadWhole}
 use Rattle.texts.proofs.Storing.{stored_all}
@@ -49,7 +49,7 @@ module _ (t : Tables) (text area : List ℕ) where
 
   -- the same where m words, that stand in `held`, were put into the area
   pub outcome-put : table_refusal t ≡ none → (w : List ℕ) → read_text (actions t) text ≡ Plan w → (m : ℕ) → length w ≡ m → m ≤ length area → m ≤ most_words
-      → (held area' : List ℕ) → held ≡ w → area' ≡ padded held (length area) → ◌≡◌ {A = TextOutcome} (record { answer = Read m; plan = area' }) (text_outcome t text area)
+      → (held area' : List ℕ) → held ≡ w → area' ≡ padded held (length area) → ◌≡◌ {A = TextOutcome} (record { answer = Ok m; plan = area' }) (text_outcome t text area)
   outcome-put e w f m c g h held area' i j = rw (j, i, ← c) (outcome-read e w f (rw c g) (rw c h))
 
   outcome-long : table_refusal t ≡ none → (w : List ℕ) → read_text (actions t) text ≡ Plan w → leb (length w) (length area) && leb (length w) most_words ≡ false

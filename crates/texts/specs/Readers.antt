@@ -1,9 +1,11 @@
 -- Nobody need believe this: contracts of functions cite it. What the three readers, for a sum, a product and a unit, do to the text that is left.
 -- Each reads from place q, where the text r is left and d brackets are open, to place q', where r' is left, and gives the words w;
 -- or it stops with a fault. Whatever brackets and signs wait around it, reading goes on as from there.
-use Rattle.std.specs.Prelude.{ℕ, ◌+◌, ◌≤◌, ◌<◌, ◌≡◌, Bool, true, false, cond, List, [], ◌∷◌, ◌++◌, length, drop, eqb, ltb}
+use Rattle.std.specs.Prelude.{ℕ, ◌+◌, ◌≤◌, ◌<◌, ◌≡◌, Bool, true, false, cond, List, [], ◌∷◌, ◌++◌, length, drop, eqb, ltb, ⊤, Result, Ok, Err, Some, None, Option as Maybe}
 use Rattle.std.proofs.Math.Option.{Option, none, some}
 use Rattle.std.proofs.lemmas.List.Edits.{sets}
+use Rattle.refusals.specs.declared.Reason.TheVariants.{NoText, TooDeep}
+use Rattle.refusals.specs.Refusal.{number_of}
 use Rattle.plans.specs.declared.Binary.{Binary}
 use Rattle.grammar.specs.declared.Bracket.{Bracket}
 use Rattle.grammar.specs.declared.Bracket.TheVariants.{Plain, OfPriority, OfSet, Second}
@@ -11,16 +13,12 @@ use Rattle.grammar.specs.Character.{plus, dot, opening, closing, blank}
 use Rattle.grammar.specs.Grammar.{deepest}
 use Rattle.grammar.specs.States.{numeral, between_of, Frame, frame, unit, done, followed}
 use Rattle.grammar.specs.Reading.{byte_of, Plan, Fault, read_from, read_text}
-use Rattle.texts.specs.declared.characters.Numeral.{Numeral}
-use Rattle.texts.specs.declared.characters.Numeral.TheVariants.{Value, NoNumeral}
-use Rattle.texts.specs.declared.characters.MaybeSign.{MaybeSign}
-use Rattle.texts.specs.declared.characters.MaybeSign.TheVariants.{Sign as ASign, NoSign}
 use Rattle.texts.specs.declared.units.Begun.{Begun}
-use Rattle.texts.specs.declared.units.Begun.TheVariants.{Action, Opened, Stopped as StoppedAtOnce}
+use Rattle.texts.specs.declared.units.Begun.TheVariants.{Action, Opened}
 use Rattle.texts.specs.declared.units.Behind.{Behind}
-use Rattle.texts.specs.declared.units.Behind.TheVariants.{Closed, Sign, Wrong}
+use Rattle.texts.specs.declared.units.Behind.TheVariants.{Closed, Sign}
+use Rattle.texts.specs.declared.units.Fault.{Fault as FaultFound}
 use Rattle.texts.specs.declared.readers.Progress.{Progress}
-use Rattle.texts.specs.declared.readers.Progress.TheVariants.{Went, Stopped}
 
 abbrev pub UnitReads : ℕ → ℕ → ℕ → List ℕ → ℕ → List ℕ → List ℕ → Type 0
 UnitReads n d q r q' r' w = (p e : Bool) (k : List Frame) (v : List ℕ) → length k ≡ d
@@ -63,13 +61,13 @@ next_between [] = none
 next_between (c ∷ r) = between_of c
 
 -- the same as the code answers it
-abbrev pub numeral_found : Option ℕ → Numeral
-numeral_found none = NoNumeral
-numeral_found (some d) = Value d
+abbrev pub numeral_found : Option ℕ → Maybe ℕ
+numeral_found none = None
+numeral_found (some d) = Some d
 
-abbrev pub sign_found : Option Binary → MaybeSign
-sign_found none = NoSign
-sign_found (some o) = ASign o
+abbrev pub sign_found : Option Binary → Maybe Binary
+sign_found none = None
+sign_found (some o) = Some o
 
 -- whether a sign may follow the sum in a bracket; and that a set has a number up to 7
 abbrev pub plain? : Bracket → Bool
@@ -89,9 +87,17 @@ pub record Stored (array array' : List ℕ) (m m' : ℕ) (w : List ℕ) : Type 0
   pub counted : m' ≡ m + length w
   pub stored : array' ≡ sets array m w
 
+-- fault 61 at place q; and it, unless character c stands there
+abbrev pub no_text : ℕ → FaultFound
+no_text q = record { reason = NoText; place = q }
+
+abbrev pub expected : ℕ → ℕ → List ℕ → Result ⊤ FaultFound
+expected c q text = cond (next_is c (drop q text)) (Ok tt) (Err (no_text q))
+
 -- a bracket whose `(` is to stand at place q
-abbrev pub opened : List ℕ → ℕ → ℕ → Bracket → Begun
-opened text q d b = cond (next_is opening (drop q text)) (cond (ltb d deepest) (Opened b (q + 1)) (StoppedAtOnce 62 q)) (StoppedAtOnce 61 q)
+abbrev pub opened : List ℕ → ℕ → ℕ → Bracket → Result Begun FaultFound
+opened text q d b =
+    cond (next_is opening (drop q text)) (cond (ltb d deepest) (Ok (Opened b (q + 1))) (Err (record { reason = TooDeep; place = q }))) (Err (no_text q))
 
 -- how a unit begins at place q
 pub record Opens (n d : ℕ) (text : List ℕ) (q : ℕ) (b : Bracket) (j : ℕ) : Type 0 where
@@ -106,10 +112,10 @@ pub record Acts (n d : ℕ) (text : List ℕ) (q a j : ℕ) : Type 0 where
   pub on : q < j
   pub inside : j ≤ length text
 
-abbrev pub BegunRight : ℕ → ℕ → List ℕ → ℕ → Begun → Type 0
-BegunRight n d text q (Action a j) = Acts n d text q a j
-BegunRight n d text q (Opened b j) = Opens n d text q b j
-BegunRight n d text q (StoppedAtOnce k p) = UnitStops n d q (drop q text) k p
+abbrev pub BegunRight : ℕ → ℕ → List ℕ → ℕ → Result Begun FaultFound → Type 0
+BegunRight n d text q (Ok (Action a j)) = Acts n d text q a j
+BegunRight n d text q (Ok (Opened b j)) = Opens n d text q b j
+BegunRight n d text q (Err e) = UnitStops n d q (drop q text) (number_of e.reason) e.place
 
 -- what stands at place q, behind the sum that a bracket b begins with
 pub record Signs (text : List ℕ) (q : ℕ) (b : Bracket) (o : Binary) : Type 0 where
@@ -123,10 +129,10 @@ abbrev pub WrongBehind : Bracket → ℕ → List ℕ → ℕ → Type 0
 WrongBehind b q'' r' f = (n d q q' : ℕ) (r₀ r w : List ℕ) → d < deepest → Enters n d q r₀ b q' r [] → SumReads n (d + 1) q' r q'' r' w
     → next_is dot r' ≡ false → next_is plus r' ≡ false → UnitStops n d q r₀ 61 f
 
-abbrev pub BehindRight : List ℕ → ℕ → Bracket → Behind → Type 0
-BehindRight text q b Closed = next_is closing (drop q text) ≡ true
-BehindRight text q b (Sign o) = Signs text q b o
-BehindRight text q b (Wrong f) = WrongBehind b q (drop q text) f
+abbrev pub BehindRight : List ℕ → ℕ → Bracket → Result Behind FaultFound → Type 0
+BehindRight text q b (Ok Closed) = next_is closing (drop q text) ≡ true
+BehindRight text q b (Ok (Sign o)) = Signs text q b o
+BehindRight text q b (Err e) = (number_of e.reason ≡ 61) × WrongBehind b q (drop q text) e.place
 
 -- where a reader may begin: every character makes one word at most
 abbrev pub Ready : List ℕ → ℕ → ℕ → ℕ → Type 0
@@ -151,17 +157,17 @@ ProductTo n d text q j r w = ProductReads n d q (drop q text) j r w × (next_is 
 abbrev pub SumTo : ℕ → ℕ → List ℕ → ℕ → ℕ → List ℕ → List ℕ → Type 0
 SumTo n d text q j r w = SumReads n d q (drop q text) j r w × (next_is dot r ≡ false) × (next_is plus r ≡ false)
 
-abbrev pub UnitDone : ℕ → ℕ → List ℕ → ℕ → List ℕ → List ℕ → ℕ → Progress → Type 0
-UnitDone n d text q array array' m (Went j m') = Reached (UnitTo n d text q) text array array' q m j m'
-UnitDone n d text q array array' m (Stopped c f) = UnitStops n d q (drop q text) c f
+abbrev pub UnitDone : ℕ → ℕ → List ℕ → ℕ → List ℕ → List ℕ → ℕ → Result Progress FaultFound → Type 0
+UnitDone n d text q array array' m (Ok to) = Reached (UnitTo n d text q) text array array' q m to.at to.words
+UnitDone n d text q array array' m (Err e) = UnitStops n d q (drop q text) (number_of e.reason) e.place
 
-abbrev pub ProductDone : ℕ → ℕ → List ℕ → ℕ → List ℕ → List ℕ → ℕ → Progress → Type 0
-ProductDone n d text q array array' m (Went j m') = Reached (ProductTo n d text q) text array array' q m j m'
-ProductDone n d text q array array' m (Stopped c f) = ProductStops n d q (drop q text) c f
+abbrev pub ProductDone : ℕ → ℕ → List ℕ → ℕ → List ℕ → List ℕ → ℕ → Result Progress FaultFound → Type 0
+ProductDone n d text q array array' m (Ok to) = Reached (ProductTo n d text q) text array array' q m to.at to.words
+ProductDone n d text q array array' m (Err e) = ProductStops n d q (drop q text) (number_of e.reason) e.place
 
-abbrev pub SumDone : ℕ → ℕ → List ℕ → ℕ → List ℕ → List ℕ → ℕ → Progress → Type 0
-SumDone n d text q array array' m (Went j m') = Reached (SumTo n d text q) text array array' q m j m'
-SumDone n d text q array array' m (Stopped c f) = SumStops n d q (drop q text) c f
+abbrev pub SumDone : ℕ → ℕ → List ℕ → ℕ → List ℕ → List ℕ → ℕ → Result Progress FaultFound → Type 0
+SumDone n d text q array array' m (Ok to) = Reached (SumTo n d text q) text array array' q m to.at to.words
+SumDone n d text q array array' m (Err e) = SumStops n d q (drop q text) (number_of e.reason) e.place
 
 -- a whole text
 pub record ReadWhole (n : ℕ) (text array array' : List ℕ) (m : ℕ) : Type 0 where
@@ -169,6 +175,6 @@ pub record ReadWhole (n : ℕ) (text array array' : List ℕ) (m : ℕ) : Type 0
   pub is_read : read_text n text ≡ Plan out
   pub stored : Stored array array' 0 m out
 
-abbrev pub WholeDone : ℕ → List ℕ → List ℕ → List ℕ → Progress → Type 0
-WholeDone n text array array' (Went j m) = ReadWhole n text array array' m
-WholeDone n text array array' (Stopped c f) = read_text n text ≡ Fault c f
+abbrev pub WholeDone : ℕ → List ℕ → List ℕ → List ℕ → Result ℕ FaultFound → Type 0
+WholeDone n text array array' (Ok m) = ReadWhole n text array array' m
+WholeDone n text array array' (Err e) = read_text n text ≡ Fault (number_of e.reason) e.place

@@ -1,177 +1,114 @@
 // Three readers, for a sum, a product and a unit, that call each other: a sum is products, a product is units, and a unit may hold a sum.
-// Each reads from a place on, where `depth` brackets are open and `words` words stand in the array.
+// Each reads from a place on, where `depth` brackets are open.
 ghost use Rattle.texts.specs.Readers.{Ready, SumDone, ProductDone, UnitDone, WholeDone};
 
-use super::units::{Begun, Behind};
-use super::{characters, units, words as words_of};
+use super::units::{Begun, Behind, Fault, expect};
+use super::{characters, units, words};
 use grammar::Bracket;
 
-// How far a reader came: the place behind what it read, and how many words there are then; or the fault that stopped it.
+// How far reading has come: the place in the text, and how many words stand in the array.
 #[derive(Clone, Copy)]
-pub enum Progress {
-    Went { at: usize, words: usize },
-    Stopped { number: u8, place: usize },
+pub struct Progress {
+    pub at: usize,
+    pub words: usize,
 }
 
 // Reads a sum: products with `+` between them, grouping to the left.
 #[cycle(read_product_read_sum_read_unit)]
-fn read_sum(n: u8, text: &[u8], at: usize, depth: usize, out: &mut [u8], words: usize) -> Progress
-    requires { Ready text.now at depth words }
-    ensures { SumDone n depth text.now at out.old out.new words result }
+fn read_sum(
+    n: u8,
+    text: &[u8],
+    from: Progress,
+    depth: usize,
+    out: &mut [u8],
+) -> Result<Progress, Fault>
+    requires { Ready text.now from.at depth from.words }
+    ensures { SumDone n depth text.now from.at out.old out.new from.words result }
 {
-    let mut here = at;
-    let mut count = words;
-    match read_product(n, text, at, depth, &mut *out, words) {
-        Progress::Stopped { number, place } => {
-            return Progress::Stopped { number, place };
-        }
-        Progress::Went {
-            at: next,
-            words: total,
-        } => {
-            here = next;
-            count = total;
-        }
+    let mut here = read_product(n, text, from, depth, &mut *out)?;
+    while characters::next_is(text, here.at, b'+') {
+        here.at += 1;
+        here = read_product(n, text, here, depth, &mut *out)?;
+        here.words = words::store(plans::CHOICE, &mut *out, here.words);
     }
-    while characters::next_is(text, here, characters::PLUS) {
-        match read_product(n, text, here + 1, depth, &mut *out, count) {
-            Progress::Stopped { number, place } => {
-                return Progress::Stopped { number, place };
-            }
-            Progress::Went {
-                at: next,
-                words: total,
-            } => {
-                count = words_of::store(words_of::CHOICE, &mut *out, total);
-                here = next;
-            }
-        }
-    }
-    Progress::Went {
-        at: here,
-        words: count,
-    }
+    Ok(here)
 }
 
-// Reads a product: units with `.` between them, grouping to the left.
+// Reads a product: units with `.` between them, grouping to the left. It is its own function beside `read_sum`, as the grammar has both:
+// one over the two would need a further one that chooses what it reads.
 #[cycle(read_product_read_sum_read_unit)]
 fn read_product(
     n: u8,
     text: &[u8],
-    at: usize,
+    from: Progress,
     depth: usize,
     out: &mut [u8],
-    words: usize,
-) -> Progress
-    requires { Ready text.now at depth words }
-    ensures { ProductDone n depth text.now at out.old out.new words result }
+) -> Result<Progress, Fault>
+    requires { Ready text.now from.at depth from.words }
+    ensures { ProductDone n depth text.now from.at out.old out.new from.words result }
 {
-    let mut here = at;
-    let mut count = words;
-    match read_unit(n, text, at, depth, &mut *out, words) {
-        Progress::Stopped { number, place } => {
-            return Progress::Stopped { number, place };
-        }
-        Progress::Went {
-            at: next,
-            words: total,
-        } => {
-            here = next;
-            count = total;
-        }
+    let mut here = read_unit(n, text, from, depth, &mut *out)?;
+    while characters::next_is(text, here.at, b'.') {
+        here.at += 1;
+        here = read_unit(n, text, here, depth, &mut *out)?;
+        here.words = words::store(plans::SEQUENCE, &mut *out, here.words);
     }
-    while characters::next_is(text, here, characters::DOT) {
-        match read_unit(n, text, here + 1, depth, &mut *out, count) {
-            Progress::Stopped { number, place } => {
-                return Progress::Stopped { number, place };
-            }
-            Progress::Went {
-                at: next,
-                words: total,
-            } => {
-                count = words_of::store(words_of::SEQUENCE, &mut *out, total);
-                here = next;
-            }
-        }
-    }
-    Progress::Went {
-        at: here,
-        words: count,
-    }
+    Ok(here)
 }
 
 // Reads a unit: an action, or one or two sums in a bracket.
 #[cycle(read_product_read_sum_read_unit)]
-fn read_unit(n: u8, text: &[u8], at: usize, depth: usize, out: &mut [u8], words: usize) -> Progress
-    requires { Ready text.now at depth words }
-    ensures { UnitDone n depth text.now at out.old out.new words result }
+fn read_unit(
+    n: u8,
+    text: &[u8],
+    from: Progress,
+    depth: usize,
+    out: &mut [u8],
+) -> Result<Progress, Fault>
+    requires { Ready text.now from.at depth from.words }
+    ensures { UnitDone n depth text.now from.at out.old out.new from.words result }
 {
-    match units::begin(n, text, at, depth) {
-        Begun::Stopped { number, place } => Progress::Stopped { number, place },
-        Begun::Action { action, next } => Progress::Went {
+    match units::begin(n, text, from.at, depth)? {
+        Begun::Action { action, next } => Ok(Progress {
             at: next,
-            words: words_of::store(action, out, words),
-        },
+            words: words::store(action, out, from.words),
+        }),
         Begun::Opened { bracket, next } => {
-            match read_sum(n, text, next, depth + 1, &mut *out, words) {
-                Progress::Stopped { number, place } => Progress::Stopped { number, place },
-                Progress::Went {
-                    at: end,
-                    words: count,
-                } => match units::after_sum(text, end, bracket) {
-                    Behind::Wrong(place) => Progress::Stopped {
-                        number: units::NO_TEXT,
-                        place,
-                    },
-                    Behind::Closed => Progress::Went {
-                        at: end + 1,
-                        words: words_of::close(bracket, out, count),
-                    },
-                    Behind::Sign(sign) => {
-                        match read_sum(n, text, end + 3, depth + 1, &mut *out, count) {
-                            Progress::Stopped { number, place } => Progress::Stopped {
-                                number,
-                                place,
-                            },
-                            Progress::Went {
-                                at: last,
-                                words: total,
-                            } => {
-                                if characters::next_is(text, last, characters::CLOSING) {
-                                    Progress::Went {
-                                        at: last + 1,
-                                        words: words_of::close(Bracket::Second(sign), out, total),
-                                    }
-                                } else {
-                                    Progress::Stopped {
-                                        number: units::NO_TEXT,
-                                        place: last,
-                                    }
-                                }
-                            }
-                        }
-                    }
-                },
+            let inner = Progress {
+                at: next,
+                words: from.words,
+            };
+            let first = read_sum(n, text, inner, depth + 1, &mut *out)?;
+            match units::after_sum(text, first.at, bracket)? {
+                Behind::Closed => Ok(Progress {
+                    at: first.at + 1,
+                    words: words::close(bracket, out, first.words),
+                }),
+                Behind::Sign(sign) => {
+                    let behind = Progress {
+                        at: first.at + 3,
+                        words: first.words,
+                    };
+                    let second = read_sum(n, text, behind, depth + 1, &mut *out)?;
+                    expect(text, second.at, b')')?;
+                    Ok(Progress {
+                        at: second.at + 1,
+                        words: words::close(Bracket::Second(sign), out, second.words),
+                    })
+                }
             }
         }
     }
 }
 
 // Reads a whole text: how many words it has, which stand in the array as far as it reaches; or its first fault.
-pub fn read_whole(n: u8, text: &[u8], out: &mut [u8]) -> Progress
+pub fn read_whole(n: u8, text: &[u8], out: &mut [u8]) -> Result<usize, Fault>
     ensures { WholeDone n text.now out.old out.new result }
 {
-    match read_sum(n, text, 0, 0, out, 0) {
-        Progress::Stopped { number, place } => Progress::Stopped { number, place },
-        Progress::Went { at, words } => {
-            if at < text.len() {
-                Progress::Stopped {
-                    number: units::NO_TEXT,
-                    place: at,
-                }
-            } else {
-                Progress::Went { at, words }
-            }
-        }
+    let end = read_sum(n, text, Progress { at: 0, words: 0 }, 0, out)?;
+    if end.at < text.len() {
+        Err(Fault::no_text(end.at))
+    } else {
+        Ok(end.words)
     }
 }

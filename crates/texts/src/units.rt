@@ -1,121 +1,133 @@
 // How a unit begins, and what stands behind the sum in a bracket.
 ghost use Rattle.std.specs.Prelude.{◌≤◌, ◌≡◌, drop};
 ghost use Rattle.std.proofs.Math.Option.{some};
-ghost use Rattle.texts.specs.Readers.{next_numeral, opened, plain?, BegunRight, BehindRight};
+ghost use Rattle.refusals.specs.declared.Place.TheVariants.{Byte};
+ghost use Rattle.refusals.specs.Refusal.{number_of};
+ghost use Rattle.texts.specs.Readers.{next_numeral, no_text, expected, opened, plain?, BegunRight, BehindRight};
 
-use super::characters;
-use super::characters::{MaybeSign, Numeral};
+use super::characters::{next_is, numeral_at, sign_at};
 use grammar::Bracket;
 use plans::Binary;
+use refusals::{Place, Reason, Refusal};
 
 // "an opening bracket that goes deeper than 200": how many brackets may be open.
 pub const DEEPEST: usize = 200;
-
-// "A character that can't go on, a text that ends too early … or an action above n … is 61; an opening bracket that goes deeper than 200 is 62".
-pub const NO_TEXT: u8 = 61;
-
-const TOO_DEEP: u8 = 62;
 
 // The digits of an action and of a set are at most these.
 const DIGIT: u8 = 9;
 
 const SET: u8 = 7;
 
-// How a unit begins: with an action, which is all of it; with a bracket; or not at all. `next` is the place behind.
+// What is wrong with a text, and at which place.
+#[derive(Clone, Copy, Debug, PartialEq, Eq)]
+pub struct Fault {
+    pub reason: Reason,
+    pub place: usize,
+}
+
+impl Fault {
+    // "A character that can't go on, a text that ends too early … or an action above n".
+    pub fn no_text(place: usize) -> Fault
+        ensures { result ≡ no_text place }
+    {
+        Fault {
+            reason: Reason::NoText,
+            place,
+        }
+    }
+}
+
+impl From<Fault> for Refusal {
+    ghost from_gives = { λ fault refusal. refusal ≡ record { number = number_of fault.reason; place = Byte fault.place } };
+
+    fn from(fault: Fault) -> Refusal {
+        Refusal::at(fault.reason, Place::Byte(fault.place))
+    }
+}
+
+// How a unit begins: with an action, which is all of it, or with a bracket. `next` is the place behind.
 #[derive(Clone, Copy)]
 pub enum Begun {
     Action { action: u8, next: usize },
     Opened { bracket: Bracket, next: usize },
-    Stopped { number: u8, place: usize },
 }
 
-// What stands behind the first sum in a bracket: `)`, a sign with its blanks and then another sum, or what cannot stand there, at a place.
+// What stands behind the first sum in a bracket: `)`, or a sign with its blanks and then another sum. (No Option: a bracket that closes is no absence.)
 #[derive(Clone, Copy)]
 pub enum Behind {
     Closed,
     Sign(Binary),
-    Wrong(usize),
+}
+
+// Demands a character at a place.
+pub fn expect(text: &[u8], at: usize, character: u8) -> Result<(), Fault>
+    ensures { result ≡ expected character at text.now }
+{
+    if next_is(text, at, character) {
+        Ok(())
+    } else {
+        Err(Fault::no_text(at))
+    }
 }
 
 // Reads the action that begins with a digit. Digits are read as long as the number is at most n, so that it stays small.
-fn read_action(n: u8, text: &[u8], at: usize, depth: usize, digit: u8) -> Begun
+fn read_action(n: u8, text: &[u8], at: usize, depth: usize, digit: u8) -> Result<Begun, Fault>
     requires { (depth ≤ 200) × (next_numeral 9 (drop at text.now) ≡ some digit) }
     ensures { BegunRight n depth text.now at result }
 {
-    let stopped = Begun::Stopped {
-        number: NO_TEXT,
-        place: at,
-    };
     if n < digit {
-        return stopped;
+        return Err(Fault::no_text(at));
     }
     let mut action = digit;
     let mut here = at + 1;
-    loop {
-        match characters::numeral_at(text, here, DIGIT) {
-            Numeral::NoNumeral => {
-                return Begun::Action { action, next: here };
-            }
-            Numeral::Value(next) => {
-                if action == 0 {
-                    return Begun::Stopped {
-                        number: NO_TEXT,
-                        place: here,
-                    };
-                }
-                let value = 10 * (action as usize) + (next as usize);
-                if (n as usize) < value {
-                    return stopped;
-                }
-                action = value as u8;
-                here += 1;
-            }
+    while let Some(next) = numeral_at(text, here, DIGIT) {
+        if action == 0 {
+            return Err(Fault::no_text(here));
         }
+        let value = 10 * (action as usize) + (next as usize);
+        if (n as usize) < value {
+            return Err(Fault::no_text(at));
+        }
+        action = value as u8;
+        here += 1;
     }
+    Ok(Begun::Action { action, next: here })
 }
 
 // Opens a bracket whose `(` is to stand at a place, where `depth` brackets are open.
-fn open(text: &[u8], at: usize, depth: usize, bracket: Bracket) -> Begun
+fn open(text: &[u8], at: usize, depth: usize, bracket: Bracket) -> Result<Begun, Fault>
     ensures { result ≡ opened text.now at depth bracket }
 {
-    if !characters::next_is(text, at, characters::OPENING) {
-        return Begun::Stopped {
-            number: NO_TEXT,
-            place: at,
-        };
-    }
+    expect(text, at, b'(')?;
     if depth < DEEPEST {
-        Begun::Opened {
+        Ok(Begun::Opened {
             bracket,
             next: at + 1,
-        }
+        })
     } else {
-        Begun::Stopped {
-            number: TOO_DEEP,
+        Err(Fault {
+            reason: Reason::TooDeep,
             place: at,
-        }
+        })
     }
 }
 
 // How the unit at a place begins, where `depth` brackets are open.
-pub fn begin(n: u8, text: &[u8], at: usize, depth: usize) -> Begun
+pub fn begin(n: u8, text: &[u8], at: usize, depth: usize) -> Result<Begun, Fault>
     requires { depth ≤ 200 }
     ensures { BegunRight n depth text.now at result }
 {
-    if let Numeral::Value(digit) = characters::numeral_at(text, at, DIGIT) {
+    if let Some(digit) = numeral_at(text, at, DIGIT) {
         return read_action(n, text, at, depth, digit);
     }
-    if characters::next_is(text, at, characters::TEE) {
+    if next_is(text, at, b'T') {
         return open(text, at + 1, depth, Bracket::OfPriority);
     }
-    if characters::next_is(text, at, characters::AITCH) {
-        if let Numeral::Value(set) = characters::numeral_at(text, at + 1, SET) {
-            return open(text, at + 2, depth, Bracket::OfSet(set));
-        }
-        return Begun::Stopped {
-            number: NO_TEXT,
-            place: at + 1,
+    if next_is(text, at, b'H') {
+        let Some(set) = numeral_at(text, at + 1, SET) else {
+            return Err(Fault::no_text(at + 1));
         };
+        return open(text, at + 2, depth, Bracket::OfSet(set));
     }
     open(text, at, depth, Bracket::Plain)
 }
@@ -124,33 +136,23 @@ pub fn begin(n: u8, text: &[u8], at: usize, depth: usize) -> Begun
 fn is_plain(bracket: Bracket) -> bool
     ensures { result ≡ plain? bracket }
 {
-    match bracket {
-        Bracket::Plain => true,
-        Bracket::OfPriority => false,
-        Bracket::OfSet(_) => false,
-        Bracket::Second(_) => false,
-    }
+    matches!(bracket, Bracket::Plain)
 }
 
 // What stands behind the sum that a bracket begins with.
-pub fn after_sum(text: &[u8], at: usize, bracket: Bracket) -> Behind
+pub fn after_sum(text: &[u8], at: usize, bracket: Bracket) -> Result<Behind, Fault>
     ensures { BehindRight text.now at bracket result }
 {
-    if characters::next_is(text, at, characters::CLOSING) {
-        return Behind::Closed;
+    if next_is(text, at, b')') {
+        return Ok(Behind::Closed);
     }
     if !is_plain(bracket) {
-        return Behind::Wrong(at);
+        return Err(Fault::no_text(at));
     }
-    if !characters::next_is(text, at, characters::BLANK) {
-        return Behind::Wrong(at);
-    }
-    let MaybeSign::Sign(sign) = characters::sign_at(text, at + 1) else {
-        return Behind::Wrong(at + 1);
+    expect(text, at, b' ')?;
+    let Some(sign) = sign_at(text, at + 1) else {
+        return Err(Fault::no_text(at + 1));
     };
-    if characters::next_is(text, at + 2, characters::BLANK) {
-        Behind::Sign(sign)
-    } else {
-        Behind::Wrong(at + 2)
-    }
+    expect(text, at + 2, b' ')?;
+    Ok(Behind::Sign(sign))
 }

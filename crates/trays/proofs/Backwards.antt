@@ -1,5 +1,6 @@
 -- Steps from right to left, by computation: each of the thirty-two laws, laws that forget a part of their left side, records cut short, what is
 -- refused of records, whole checks, and a rewriting turned round.
+use Rattle.std.specs.Prelude.{Result, Ok, Err}
 use Prim.Native.Nat.{ℕ, suc}
 use mathlib.Core.Path.{◌≡◌, refl, ◌∙◌}
 use mathlib.Core.Bool.{Bool, true, false, ◌&&◌}
@@ -19,7 +20,7 @@ use Rattle.laws.specs.Step.{step, step_back}
 use Rattle.rewritings.specs.Moves.{Move}
 use Rattle.rewritings.specs.Records.{Recorded, forward, backward, backward?, first_carried, first_backward, first_with, first_record, Cut, cut_from, records_of, bytes_of_all}
 use Rattle.checking.specs.declared.Checked.{Checked}
-use Rattle.checking.specs.declared.Checked.TheVariants.{Accepted, TurnedBack, Refused}
+use Rattle.checking.specs.declared.Checked.TheVariants.{Accepted, TurnedBack}
 use Rattle.checking.specs.Checking.{step_of, left_refusal, records_refusal, rewriting_refusal, check_refusal, replay, replay_of, CheckOutcome, unless_refused, check_outcome}
 use Rattle.demands.specs.Reversed.{moved, turned, turned_round, reversed}
 use Rattle.trays.specs.Trays.{trial, communicate, put_below, block}
@@ -171,7 +172,7 @@ record Case : Type 0 where
   size : ℕ
   left : CheckOutcome
 
-abbrev check : List ℕ → List ℕ → List ℕ → ℕ → Checked → List ℕ → List ℕ → Case
+abbrev check : List ℕ → List ℕ → List ℕ → ℕ → Result Checked Refusal → List ℕ → List ℕ → Case
 check start claimed rewriting size answer a b =
     record { start = start; claimed = claimed; rewriting = rewriting; size = size; left = record { answer = answer; a = a; b = b } }
 
@@ -193,20 +194,20 @@ after_10 = 1 ∷ 2 ∷ 67 ∷ 2 ∷ 1 ∷ 67 ∷ 64 ∷ 3 ∷ 64 ∷ []
 unfoldable cases : List Case
 cases =
     -- accepted, and 33
-    check (3 ∷ []) (1 ∷ 2 ∷ 68 ∷ []) back_10 3 (Accepted 1 3) (3 ∷ 0 ∷ 0 ∷ []) (1 ∷ 2 ∷ 68 ∷ [])
-    ∷ check (3 ∷ []) (2 ∷ 1 ∷ 68 ∷ []) back_10 3 (TurnedBack 33 1 3) (3 ∷ 0 ∷ 0 ∷ []) (1 ∷ 2 ∷ 68 ∷ [])
+    check (3 ∷ []) (1 ∷ 2 ∷ 68 ∷ []) back_10 3 (Ok (Accepted 1 3)) (3 ∷ 0 ∷ 0 ∷ []) (1 ∷ 2 ∷ 68 ∷ [])
+    ∷ check (3 ∷ []) (2 ∷ 1 ∷ 68 ∷ []) back_10 3 (Ok (TurnedBack 33 1 3)) (3 ∷ 0 ∷ 0 ∷ []) (1 ∷ 2 ∷ 68 ∷ [])
     -- an accepted left side that is longer than the areas: 32 where it fits, and 31 where it does not
-    ∷ check (3 ∷ []) (1 ∷ 2 ∷ 68 ∷ []) back_10 2 (TurnedBack 32 0 1) (3 ∷ 0 ∷ []) (0 ∷ 0 ∷ [])
-    ∷ check (3 ∷ []) (1 ∷ 2 ∷ 68 ∷ []) (129 ∷ 0 ∷ 0 ∷ 3 ∷ 0 ∷ 1 ∷ 2 ∷ 68 ∷ []) 2 (TurnedBack 31 0 1) (3 ∷ 0 ∷ []) (0 ∷ 0 ∷ [])
+    ∷ check (3 ∷ []) (1 ∷ 2 ∷ 68 ∷ []) back_10 2 (Ok (TurnedBack 32 0 1)) (3 ∷ 0 ∷ []) (0 ∷ 0 ∷ [])
+    ∷ check (3 ∷ []) (1 ∷ 2 ∷ 68 ∷ []) (129 ∷ 0 ∷ 0 ∷ 3 ∷ 0 ∷ 1 ∷ 2 ∷ 68 ∷ []) 2 (Ok (TurnedBack 31 0 1)) (3 ∷ 0 ∷ []) (0 ∷ 0 ∷ [])
     -- 31 past the end, and 31 behind a step that is made
-    ∷ check (3 ∷ []) (1 ∷ 2 ∷ 68 ∷ []) (138 ∷ 1 ∷ 0 ∷ 3 ∷ 0 ∷ 1 ∷ 2 ∷ 68 ∷ []) 3 (TurnedBack 31 0 1) (3 ∷ 0 ∷ 0 ∷ []) (0 ∷ 0 ∷ 0 ∷ [])
-    ∷ check (3 ∷ []) (1 ∷ 2 ∷ 68 ∷ []) (back_10 ++ (1 ∷ 0 ∷ 0 ∷ [])) 3 (TurnedBack 31 1 3) (3 ∷ 0 ∷ 0 ∷ []) (1 ∷ 2 ∷ 68 ∷ [])
+    ∷ check (3 ∷ []) (1 ∷ 2 ∷ 68 ∷ []) (138 ∷ 1 ∷ 0 ∷ 3 ∷ 0 ∷ 1 ∷ 2 ∷ 68 ∷ []) 3 (Ok (TurnedBack 31 0 1)) (3 ∷ 0 ∷ 0 ∷ []) (0 ∷ 0 ∷ 0 ∷ [])
+    ∷ check (3 ∷ []) (1 ∷ 2 ∷ 68 ∷ []) (back_10 ++ (1 ∷ 0 ∷ 0 ∷ [])) 3 (Ok (TurnedBack 31 1 3)) (3 ∷ 0 ∷ 0 ∷ []) (1 ∷ 2 ∷ 68 ∷ [])
     -- 75 before any step, though the first does not fit
-    ∷ check (3 ∷ []) (3 ∷ []) (1 ∷ 0 ∷ 0 ∷ 160 ∷ 0 ∷ 0 ∷ 0 ∷ 0 ∷ []) 3 (Refused (record { number = 75; place = Step 1 })) (full 3) (full 3)
+    ∷ check (3 ∷ []) (3 ∷ []) (1 ∷ 0 ∷ 0 ∷ 160 ∷ 0 ∷ 0 ∷ 0 ∷ 0 ∷ []) 3 (Err (record { number = 75; place = Step 1 })) (full 3) (full 3)
     -- there and back, and the way back alone, in areas that hold the longest plan and in shorter ones
-    ∷ check (1 ∷ 2 ∷ 66 ∷ []) (1 ∷ 2 ∷ 66 ∷ []) (there-records ++ back-records) 11 (Accepted 4 3) (padded (1 ∷ 2 ∷ 66 ∷ []) 11) after_11
-    ∷ check after_10 (1 ∷ 2 ∷ 66 ∷ []) back-records 11 (Accepted 2 3) (padded (1 ∷ 2 ∷ 66 ∷ []) 11) after_11
-    ∷ check after_10 (1 ∷ 2 ∷ 66 ∷ []) back-records 10 (TurnedBack 32 0 9) (padded after_10 10) (padded [] 10)
+    ∷ check (1 ∷ 2 ∷ 66 ∷ []) (1 ∷ 2 ∷ 66 ∷ []) (there-records ++ back-records) 11 (Ok (Accepted 4 3)) (padded (1 ∷ 2 ∷ 66 ∷ []) 11) after_11
+    ∷ check after_10 (1 ∷ 2 ∷ 66 ∷ []) back-records 11 (Ok (Accepted 2 3)) (padded (1 ∷ 2 ∷ 66 ∷ []) 11) after_11
+    ∷ check after_10 (1 ∷ 2 ∷ 66 ∷ []) back-records 10 (Ok (TurnedBack 32 0 9)) (padded after_10 10) (padded [] 10)
     ∷ []
 
 abbrev outcome : Case → CheckOutcome

@@ -1,5 +1,6 @@
 -- The twelve trial trays as one table, computed by the definitions: the whole outcome of the unfolding, acceptance included, that of the check of
 -- its own rewriting, trees and basic.
+use Rattle.std.specs.Prelude.{Result, Ok}
 use Prim.Native.Nat.{ℕ}
 use mathlib.Core.Path.{◌≡◌, refl, ◌∙◌, ap}
 use mathlib.Core.Bool.{Bool, true, false, cond}
@@ -124,8 +125,8 @@ trays =
     ∷ []
 
 -- what a row says is answered and left
-abbrev said : Tray → Unfolded
-said y = cond (eqb y.end 0) (Finished y.steps y.size) (Stopped y.end y.steps y.size)
+abbrev said : Tray → Result Unfolded Refusal
+said y = cond (eqb y.end 0) (Ok (Finished y.steps y.size)) (Ok (Stopped y.end y.steps y.size))
 
 abbrev left : Tray → UnfoldOutcome
 left y =
@@ -162,7 +163,7 @@ told (unlike_plans v w) = of_plans (both (plan_tree trial v) (plan_tree trial w)
 -- what a row has: the check accepts and leaves the same areas, the trees are alike, and the plan reached is basic exactly if it finished
 unfoldable expected : Row → Told
 expected (unfolds y) =
-    of_tray (left y) (record { answer = Accepted y.steps y.size; a = (left y).a; b = (left y).b }) (some true) (eqb y.end 0)
+    of_tray (left y) (record { answer = Ok (Accepted y.steps y.size); a = (left y).a; b = (left y).b }) (some true) (eqb y.end 0)
 expected (alike_plans v w) = of_plans (some true)
 expected (unlike_plans v w) = of_plans (some false)
 

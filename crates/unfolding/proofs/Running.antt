@@ -1,4 +1,5 @@
 -- The unfolding's loop: the plan given, the records in the list, and what is left of the run, which has the outcome of the whole run.
+use Rattle.std.specs.Prelude.{Option as Maybe}
 use Prim.Native.Nat.{ℕ, ◌+◌, ◌-◌, ◌≤◌, ◌<◌}
 use native.Mathlib.Omega.{arith}
 use mathlib.Core.Path.{◌≡◌, refl, sym, ◌∙◌, ap, subst}
@@ -12,10 +13,12 @@ use Rattle.tables.specs.Tables.{Tables}
 use Rattle.rewritings.specs.Moves.{Move, bytes_of}
 use Rattle.rewritings.proofs.Moves.{bytes_append}
 use Rattle.rewritings.specs.Runs.{run, run_of}
+use Rattle.graphsteps.specs.declared.Stop.{Stop}
+use Rattle.graphsteps.specs.Stopping.{end_number}
 use Rattle.rounds.specs.Rounds.{Given, RoundEnd, run_over, another, RoundOf}
 use Rattle.recording.specs.Recording.{Ends}
 use Rattle.unfolding.specs.Made.{RunMade}
-use Rattle.recording.specs.declared.Ending.TheVariants.{Run as EndsRun, NoNode}
+use Rattle.recording.specs.declared.Ending.TheVariants.{Over, NoNode}
 use Rattle.rounds.specs.declared.Round.{Round}
 
 abbrev zeros : ℕ → List ℕ
@@ -82,8 +85,8 @@ module _ (t : Tables) (c m₀ : ℕ) (w₀ list₀ : List ℕ) (list ws old : Li
         same = rw long (sym (h.runs g.ms) ∙ g.same);
       }
 
-  over_of : {left room number : ℕ} {w : List ℕ} → RoundEnd t c allowed left room w (EndsRun number) → Ends t c left room w number
-  over_of (run_over number e) = e
+  over_of : {left room : ℕ} {stop : Maybe Stop} {w : List ℕ} → RoundEnd t c allowed left room w (Over stop) → Ends t c left room w (end_number stop)
+  over_of (run_over stop e) = e
 
   fewer_of : {left room : ℕ} {w : List ℕ} → RoundEnd t c allowed left room w NoNode → left < allowed
   fewer_of (another l) = l
@@ -93,15 +96,15 @@ module _ (t : Tables) (c m₀ : ℕ) (w₀ list₀ : List ℕ) (list ws old : Li
   fewer e = fewer_of (subst (RoundEnd t c allowed r.allowed (length list - r.used) (drop r.front ws')) e h.ended)
 
   -- the run ends with it
-  pub over : (number : ℕ) → r.ending ≡ EndsRun number
-      → RunMade t c (run_of t w₀ m₀ (length list₀) c) ws' old' list₀ list' (record { number = number; front = r.front; state = r.state })
-  over number e =
+  pub over : (stop : Maybe Stop) → r.ending ≡ Over stop
+      → RunMade t c (run_of t w₀ m₀ (length list₀) c) ws' old' list₀ list' (record { stop = stop; front = r.front; state = r.state })
+  over stop e =
       let w = drop r.front ws' in
       let n = after_round in
       let z = over_of (subst (RoundEnd t c allowed r.allowed (length list - r.used) w) e h.ended) in
       let q : length list - r.used ≡ length list' - r.used = omega (arith, long) in
       let last : run t c r.allowed (length list' - r.used) r.state.steps w (before r.state w old') n.ms
-      ≡ record { number = number; steps = r.state.steps; plan = w; before = before r.state w old'; moves = n.ms } =
+      ≡ record { number = end_number stop; steps = r.state.steps; plan = w; before = before r.state w old'; moves = n.ms } =
       rw (← q) (z r.state.steps (before r.state w old') n.ms) in
       let outcome = sym n.same ∙ last in
       rw outcome (record { given = n.given; number = refl; steps = refl; plan = refl; prior = refl; records = n.list_is })

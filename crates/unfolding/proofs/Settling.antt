@@ -1,12 +1,13 @@
 -- The outcome of an unfolding, once its run is made and its plans are stored.
+use Rattle.std.specs.Prelude.{Result, Ok, Err, Some, None, false, eqb}
 use Prim.Native.Nat.{ℕ, ◌+◌, ◌-◌, ◌≤◌, ◌<◌, min}
 use native.Mathlib.Omega.{arith}
-use mathlib.Core.Path.{◌≡◌, ◌∙◌, ap}
+use mathlib.Core.Path.{◌≡◌, refl, ◌∙◌, ap}
 use mathlib.Core.List.{List, []}
 use mathlib.Core.Option.{none, some}
 use lib.ListN.{length, take, drop, length-drop}
 use lib.Seq.{take_all}
-use borrow.Author.Tests.{eq-eqb, ne_eqb, lt-ltb, le-ltb}
+use borrow.Author.Tests.{lt-ltb, le-ltb}
 use Rattle.refusals.specs.declared.Place.TheVariants.{Nowhere}
 use Rattle.refusals.specs.declared.Refusal.{Refusal}
 use Rattle.areas.specs.Area.{overwrite, padded, most_words}
@@ -21,8 +22,11 @@ use Rattle.plans.specs.Judging.{plan_refusal}
 use Rattle.plans.proofs.Accepted.{plan-accepted_iff}
 use Rattle.rewritings.specs.Moves.{bytes_of}
 use Rattle.unfolding.specs.declared.Unfolded.{Unfolded}
-use Rattle.unfolding.specs.declared.Unfolded.TheVariants.{Finished, Stopped, Refused}
+use Rattle.unfolding.specs.declared.Unfolded.TheVariants.{Finished, Stopped}
 use Rattle.unfolding.specs.declared.Last.{Last}
+use Rattle.graphsteps.specs.declared.Stop.{Stop}
+use Rattle.graphsteps.specs.declared.Stop.TheVariants.{AllowanceSpent, ListFull, TooLong}
+use Rattle.graphsteps.specs.Stopping.{stop_number}
 use Rattle.rewritings.specs.Runs.{Run, run_of}
 use Rattle.unfolding.specs.Unfolding.{UnfoldOutcome, unfolded, settled, unfold_refusal, unfold_outcome}
 use Rattle.rounds.specs.Rounds.{Given}
@@ -54,6 +58,12 @@ part_is ws start long = take_all (most_words - start) (drop start ws) (omega (ar
 pub lawful : (t : Tables) (plan : List ℕ) → plan_refusal t plan ≡ none → Lawful t
 lawful t plan ok = (accepted_iff_lawful t).0 ((plan-accepted_iff t plan).0 ok).0
 
+-- what stops a run has a number other than 0
+some_number : (stop : Stop) → eqb (stop_number stop) 0 ≡ false
+some_number AllowanceSpent = refl
+some_number ListFull = refl
+some_number TooLong = refl
+
 module _ (t : Tables) (c m : ℕ) (plan w list list₁ list' ws old : List ℕ) (r : Last) (a b a' b' : List ℕ) (size : ℕ)
     (is_w : w ≡ plan) (long : length list₁ ≡ length list) (made : RunMade t c (run_of t w m (length list₁) c) ws old list₁ list' r)
     (q : Stored a b a' b' r.state (drop r.front ws) old size) where
@@ -63,20 +73,20 @@ module _ (t : Tables) (c m : ℕ) (plan w list list₁ list' ws old : List ℕ) 
   p : RunMade t c R ws old list₁ list' r
   p = rw (is_w, long) at made
 
-  settle : (answer : Unfolded) → answer ≡ unfolded R → ◌≡◌ {A = UnfoldOutcome} (record { answer = answer; list = list'; a = a'; b = b' }) (settled R list a b)
+  settle : (answer : Result Unfolded Refusal) → answer ≡ unfolded R → ◌≡◌ {A = UnfoldOutcome} (record { answer = answer; list = list'; a = a'; b = b' }) (settled R list a b)
   settle answer e =
       let x : list' ≡ padded (bytes_of R.moves) (length list) = p.records ∙ ap (padded (bytes_of R.moves)) long in
       let y : a' ≡ area_a (even? R.steps) R.plan R.before (length a) = q.in_a ∙ rw (p.prior, p.plan, p.given.kept.parity, p.steps) in
       let z : b' ≡ area_b (even? R.steps) R.plan R.before (length b) = q.in_b ∙ rw (p.prior, p.plan, p.given.kept.parity, p.steps) in
       cc
 
-  pub settle_finished : r.number ≡ 0
-      → ◌≡◌ {A = UnfoldOutcome} (record { answer = Finished r.state.steps size; list = list'; a = a'; b = b' }) (settled R list a b)
-  settle_finished h = settle _ (rw (← p.number, eq-eqb r.number 0 h, ← p.steps, ← p.plan, q.plan_size))
+  pub settle_finished : r.stop ≡ None
+      → ◌≡◌ {A = UnfoldOutcome} (record { answer = Ok (Finished r.state.steps size); list = list'; a = a'; b = b' }) (settled R list a b)
+  settle_finished h = settle _ (rw (← p.number, h, ← p.steps, ← p.plan, q.plan_size))
 
-  pub settle_stopped : (r.number ≡ 0 → ⊥)
-      → ◌≡◌ {A = UnfoldOutcome} (record { answer = Stopped r.number r.state.steps size; list = list'; a = a'; b = b' }) (settled R list a b)
-  settle_stopped h = settle _ (rw (← p.number, ne_eqb r.number 0 h, ← p.steps, ← p.plan, q.plan_size))
+  pub settle_stopped : (stop : Stop) → r.stop ≡ Some stop
+      → ◌≡◌ {A = UnfoldOutcome} (record { answer = Ok (Stopped (stop_number stop) r.state.steps size); list = list'; a = a'; b = b' }) (settled R list a b)
+  settle_stopped stop h = settle _ (rw (← p.number, h, some_number stop, ← p.steps, ← p.plan, q.plan_size))
 
 pub is_capacity : (a b : List ℕ) (c : ℕ) → c ≡ min (min (length a) (length b)) most_words → c ≡ capacity a b
 unfolding capacity
@@ -85,13 +95,13 @@ is_capacity a b c e = e
 -- the whole outcome, by what is refused
 module _ (t : Tables) (plan : List ℕ) (m : ℕ) (list a b : List ℕ) where
   pub outcome-refused : (f : Refusal) → plan_refusal t plan ≡ some f
-      → ◌≡◌ {A = UnfoldOutcome} (record { answer = Refused f; list = list; a = a; b = b }) (unfold_outcome t plan m list a b)
+      → ◌≡◌ {A = UnfoldOutcome} (record { answer = Err f; list = list; a = a; b = b }) (unfold_outcome t plan m list a b)
   unfolding unfold_outcome unfold_refusal
   outcome-refused f e = rw e
 
   module _ (ok : plan_refusal t plan ≡ none) (c : ℕ) (is_c : c ≡ min (min (length a) (length b)) most_words) where
     pub outcome-long : c < length plan
-        → ◌≡◌ {A = UnfoldOutcome} (record { answer = Refused (record { number = 15; place = Nowhere }); list = list; a = a; b = b }) (unfold_outcome t plan m list a b)
+        → ◌≡◌ {A = UnfoldOutcome} (record { answer = Err (record { number = 15; place = Nowhere }); list = list; a = a; b = b }) (unfold_outcome t plan m list a b)
     unfolding unfold_outcome unfold_refusal capacity
     outcome-long h = rw (ok, ← is_c, lt-ltb c (length plan) h)
 

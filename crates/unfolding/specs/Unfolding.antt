@@ -1,6 +1,6 @@
 -- The unfolding: its answer and what it leaves in the list and the areas. (01, "Unfolding" and "Turned back by how far it had come".)
 use Prim.Native.Nat.{ℕ}
-use Rattle.std.specs.Prelude.{cond, length, eqb, ltb}
+use Rattle.std.specs.Prelude.{cond, length, eqb, ltb, Result, Ok, Err}
 use mathlib.Core.List.{List}
 use Rattle.std.proofs.Math.Option.{Option, none, some}
 use Rattle.refusals.specs.declared.Place.TheVariants.{Nowhere}
@@ -10,20 +10,20 @@ use Rattle.areas.specs.Area.{padded}
 use Rattle.tables.specs.Tables.{Tables}
 use Rattle.plans.specs.Judging.{plan_refusal}
 use Rattle.unfolding.specs.declared.Unfolded.{Unfolded}
-use Rattle.unfolding.specs.declared.Unfolded.TheVariants.{Finished, Stopped, Refused}
+use Rattle.unfolding.specs.declared.Unfolded.TheVariants.{Finished, Stopped}
 use Rattle.areas.specs.Reached.{capacity, even?, area_a, area_b}
 use Rattle.rewritings.specs.Moves.{bytes_of}
 use Rattle.rewritings.specs.Runs.{Run, run_of}
 
 -- everything that an unfolding answers and leaves
 pub record UnfoldOutcome : Type 0 where
-  pub answer : Unfolded
+  pub answer : Result Unfolded Refusal
   pub list : List ℕ
   pub a : List ℕ
   pub b : List ℕ
 
-abbrev pub unfolded : Run → Unfolded
-unfolded r = cond (eqb r.number 0) (Finished r.steps (length r.plan)) (Stopped r.number r.steps (length r.plan))
+abbrev pub unfolded : Run → Result Unfolded Refusal
+unfolded r = cond (eqb r.number 0) (Ok (Finished r.steps (length r.plan))) (Ok (Stopped r.number r.steps (length r.plan)))
 
 -- "The answer has the steps made; they are exactly the records in the list … All bytes past a plan, in either area, and past the records
 -- are zero."
@@ -42,7 +42,7 @@ unfold_refusal t plan c = or_else (plan_refusal t plan) (cond (ltb c (length pla
 
 -- "Areas and lists keep their bytes" where what was handed in is turned back
 abbrev pub unless_refused : Option Refusal → Run → List ℕ → List ℕ → List ℕ → UnfoldOutcome
-unless_refused (some f) r list a b = record { answer = Refused f; list = list; a = a; b = b }
+unless_refused (some f) r list a b = record { answer = Err f; list = list; a = a; b = b }
 unless_refused none r list a b = settled r list a b
 
 unfoldable pub unfold_outcome : Tables → List ℕ → ℕ → List ℕ → List ℕ → List ℕ → UnfoldOutcome

@@ -15,10 +15,11 @@ ghost use Rattle.unfolding.specs.Unfolding.{settled, unfold_outcome, UnfoldOutco
 ghost use Rattle.unfolding.specs.Made.{RunMade};
 
 use areas::{MOST_WORDS, StepState};
+use graphsteps::Stop;
 use recording::Ending;
-use refusals::{Judgement, Place, Refusal};
+use refusals::{Reason, Refusal};
 
-// What an unfolding answers: finished; or stopped by how far it had come (34, 35, 36); or refused by what was handed in. Steps are those
+// What an unfolding answers: finished; or stopped by how far it had come (34, 35, 36); a refusal of what was handed in is the error beside it. Steps are those
 // made, and size is the length of the plan reached.
 #[derive(Clone, Copy)]
 pub enum Unfolded {
@@ -26,18 +27,18 @@ pub enum Unfolded {
         steps: usize,
         size: usize,
     },
+    // By the number, since the claims on allowances (`stopped_unchanged` and others) speak of 34 to 36.
     Stopped {
         number: u8,
         steps: usize,
         size: usize,
     },
-    Refused(Refusal),
 }
 
-// How a run ended: its number, where the plan reached begins in the array of its words, and the step state.
+// How a run ended: what stopped it, if anything did; where the plan reached begins in the array of its words; and the step state.
 #[derive(Clone, Copy)]
 pub struct Last {
-    pub number: u8,
+    pub stop: Option<Stop>,
     pub front: usize,
     pub state: StepState,
 }
@@ -81,11 +82,10 @@ fn run_on(
         state = round.state;
         allowed = round.allowed;
         used = round.used;
-        let ending = round.ending;
-        match ending {
-            Ending::Run(number) => {
+        match round.ending {
+            Ending::Over(stop) => {
                 return Last {
-                    number,
+                    stop,
                     front: start,
                     state,
                 };
@@ -104,7 +104,7 @@ fn unfold_accepted(
     list: &mut [u8],
     a: &mut [u8],
     b: &mut [u8],
-) -> Unfolded
+) -> Result<Unfolded, Refusal>
     requires { (plan_refusal tables.now plan.now ≡ none) × (limit ≡ capacity a.old b.old) × (length plan.now ≤ limit) }
     ensures { ◌≡◌ {A = UnfoldOutcome} (record { answer = result; list = list.new; a = a.new; b = b.new })
         (settled (run_of tables.now plan.now allowance (length list.old) limit)
@@ -122,15 +122,14 @@ fn unfold_accepted(
     let start = last.front;
     let state = last.state;
     let size = areas::store(&plan[..0], &words[start..], &old, state, a, b);
-    let number = last.number;
     let steps = state.steps;
-    if number == 0 {
-        return Unfolded::Finished { steps, size };
-    }
-    Unfolded::Stopped {
-        number,
-        steps,
-        size,
+    match last.stop {
+        None => Ok(Unfolded::Finished { steps, size }),
+        Some(stop) => Ok(Unfolded::Stopped {
+            number: stop.number(),
+            steps,
+            size,
+        }),
     }
 }
 
@@ -142,22 +141,14 @@ pub fn unfold(
     list: &mut [u8],
     a: &mut [u8],
     b: &mut [u8],
-) -> Unfolded
+) -> Result<Unfolded, Refusal>
     ensures whole { ◌≡◌ {A = UnfoldOutcome} (record { answer = result; list = list.new; a = a.new; b = b.new })
         (unfold_outcome tables.now plan.now allowance list.old a.old b.old) }
 {
-    match plans::judge_plan(tables, plan) {
-        Judgement::Refused(refusal) => {
-            return Unfolded::Refused(refusal);
-        }
-        Judgement::Accepted => {}
-    }
+    plans::judge_plan(tables, plan)?;
     let limit = areas::least(a.len(), b.len());
     if limit < plan.len() {
-        return Unfolded::Refused(Refusal {
-            number: 15,
-            place: Place::Nowhere,
-        });
+        return Err(Refusal::from(Reason::OverCapacity));
     }
     unfold_accepted(tables, plan, allowance, limit, list, a, b)
 }

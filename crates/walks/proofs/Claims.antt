@@ -1,4 +1,5 @@
 -- What is claimed of the calls of a walk holds of their outcomes.
+use Rattle.std.specs.Prelude.{Result, Ok, Err, ⊤}
 use Prim.Native.Nat.{ℕ, ◌≤◌, ◌<◌}
 use native.Mathlib.Omega.{arith}
 use mathlib.Core.Path.{◌≡◌, refl, ap, ap₂, sym, ◌∙◌, subst}
@@ -12,8 +13,6 @@ use lib.Seq.{ext_get_or}
 use borrow.Author.Tests.{eqb-true, eqb-false, ltb-true, ltb-false}
 use Rattle.refusals.specs.declared.Place.TheVariants.{Nowhere}
 use Rattle.refusals.specs.declared.Refusal.{Refusal}
-use Rattle.refusals.specs.declared.Judgement.{Judgement}
-use Rattle.refusals.specs.declared.Judgement.TheVariants.{Accepted, Refused}
 use Rattle.refusals.specs.Refusal.{refuse, report, reported}
 use Rattle.tables.specs.Tables.{Tables, actions, outside?}
 use Rattle.tables.proofs.Actions.{is_outside, outside-said, not_outside, within}
@@ -37,10 +36,10 @@ use Rattle.walks.proofs.Walked.{can_walk, walk_takes, walk-finish, walk-marks, w
 use Rattle.walks.proofs.Deciding.{same_truth, same_replies}
 
 -- outcomes of both kinds are told apart
-not_accepted {ℓ} : {C : Type ℓ} {r : Refusal} → Refused r ≡ Accepted → C
+not_accepted {ℓ} : {C : Type ℓ} {r : Refusal} → ◌≡◌ {A = Result ⊤ Refusal} (Err r) (Ok tt) → C
 not_accepted h = let z : ◌≡◌ {A = ℕ} 0 1 = cc in absurd (omega arith)
 
-answer : WalkOutcome → Judgement
+answer : WalkOutcome → Result ⊤ Refusal
 answer o = o.answer
 
 accepted-refused {ℓ} : {C : Type ℓ} {p q : Progress} {r : Refusal} → accepted_outcome q ≡ refused_outcome r p → C
@@ -54,7 +53,7 @@ refused_same : {p : Progress} {r f : Refusal} → refused_outcome r p ≡ refuse
 unfolding answer
 refused_same {r = r} {f = f} e = of (ap answer e)
   where
-    of : Refused r ≡ Refused f → r ≡ f
+    of : ◌≡◌ {A = Result ⊤ Refusal} (Err r) (Err f) → r ≡ f
     of h = cc
 
 -- whether a plan can be walked

@@ -1,12 +1,11 @@
 -- Trees alone decide: walks of plans with alike trees take the same messages and finish alike at every point.
+use Rattle.std.specs.Prelude.{Result, Ok, Err, ⊤}
 use Prim.Native.Nat.{ℕ}
 use native.Mathlib.Omega.{arith}
 use mathlib.Core.Path.{◌≡◌, refl, ap, ap₂, sym, ◌∙◌, subst}
 use mathlib.Core.Bool.{Bool, true, false}
 use mathlib.Core.List.{List, [], ◌∷◌, ◌++◌}
 use Rattle.refusals.specs.declared.Refusal.{Refusal}
-use Rattle.refusals.specs.declared.Judgement.{Judgement}
-use Rattle.refusals.specs.declared.Judgement.TheVariants.{Accepted, Refused}
 use Rattle.tables.specs.Tables.{Tables}
 use Rattle.plans.specs.Accepted.{BasicPlan}
 use Rattle.trees.specs.Tree.{Alike}
@@ -30,10 +29,10 @@ module _ (t : Tables) (plan : List ℕ) (m : ℕ) where
   taken_more [] p = refl
   taken_more (k ∷ ms) p = onto (walk_outcome t plan k p).answer _ (taken_more ms (walk_outcome t plan k p).progress)
     where
-      onto : {l : List ℕ} (a : Judgement) (r : List ℕ) → l ≡ messages_taken t plan (walk_outcome t plan k p).progress ms ++ r
+      onto : {l : List ℕ} (a : Result ⊤ Refusal) (r : List ℕ) → l ≡ messages_taken t plan (walk_outcome t plan k p).progress ms ++ r
           → if_taken a k l ≡ if_taken a k (messages_taken t plan (walk_outcome t plan k p).progress ms) ++ r
-      onto Accepted r e = ap (λ l. k ∷ l) e
-      onto (Refused f) r e = e
+      onto (Ok tt) r e = ap (λ l. k ∷ l) e
+      onto (Err f) r e = e
 
 pub same_truth : (b c : Bool) → (b ≡ true → c ≡ true) → (c ≡ true → b ≡ true) → b ≡ c
 same_truth true c f g = sym (f refl)
@@ -41,15 +40,15 @@ same_truth false true f g = g refl
 same_truth false false f g = refl
 
 -- both accepted, or both refused
-data Both : Judgement → Judgement → Type 0 where
-  both_accepted : Both Accepted Accepted
-  both_refused : {f g : Refusal} → Both (Refused f) (Refused g)
+data Both : Result ⊤ Refusal → Result ⊤ Refusal → Type 0 where
+  both_accepted : Both (Ok tt) (Ok tt)
+  both_refused : {f g : Refusal} → Both (Err f) (Err g)
 
-both : (a b : Judgement) → (a ≡ Accepted → b ≡ Accepted) → (b ≡ Accepted → a ≡ Accepted) → Both a b
-both Accepted Accepted f g = both_accepted
-both Accepted (Refused r) f g = let e = f refl in let z : ◌≡◌ {A = ℕ} 0 1 = cc in absurd (omega arith)
-both (Refused r) Accepted f g = let e = g refl in let z : ◌≡◌ {A = ℕ} 0 1 = cc in absurd (omega arith)
-both (Refused r) (Refused s) f g = both_refused
+both : (a b : Result ⊤ Refusal) → (a ≡ Ok tt → b ≡ Ok tt) → (b ≡ Ok tt → a ≡ Ok tt) → Both a b
+both (Ok u) (Ok v) f g = both_accepted
+both (Ok u) (Err r) f g = let e = f refl in let z : ◌≡◌ {A = ℕ} 0 1 = cc in absurd (omega arith)
+both (Err r) (Ok u) f g = let e = g refl in let z : ◌≡◌ {A = ℕ} 0 1 = cc in absurd (omega arith)
+both (Err r) (Err s) f g = both_refused
 
 module _ (t t' : Tables) (v w : List ℕ) (b : BasicPlan t v) (c : BasicPlan t' w) (like : Alike (tree t b.plan.term) (tree t' c.plan.term)) where
   abbrev one : List ℕ → Progress
@@ -64,10 +63,10 @@ module _ (t t' : Tables) (v w : List ℕ) (b : BasicPlan t v) (c : BasicPlan t' 
   both_answer : (ms : List ℕ) → Same ms → (m : ℕ) → Both (walk_outcome t v m (one ms)).answer (walk_outcome t' w m (other ms)).answer
   both_answer ms s m = both _ _ to from
     where
-      to : (walk_outcome t v m (one ms)).answer ≡ Accepted → (walk_outcome t' w m (other ms)).answer ≡ Accepted
+      to : (walk_outcome t v m (one ms)).answer ≡ Ok tt → (walk_outcome t' w m (other ms)).answer ≡ Ok tt
       to h = (walk_takes t' w c ms m).1 (subst (λ l. Begins (tree t' c.plan.term) (l ++ (m ∷ []))) s ((begins-alike like (messages_taken t v (fresh v) ms ++ (m ∷ []))).0 ((walk_takes t v b ms m).0 h)))
 
-      from : (walk_outcome t' w m (other ms)).answer ≡ Accepted → (walk_outcome t v m (one ms)).answer ≡ Accepted
+      from : (walk_outcome t' w m (other ms)).answer ≡ Ok tt → (walk_outcome t v m (one ms)).answer ≡ Ok tt
       from h = (walk_takes t v b ms m).1 (subst (λ l. Begins (tree t b.plan.term) (l ++ (m ∷ []))) (sym s) ((begins-alike like (messages_taken t' w (fresh w) ms ++ (m ∷ []))).1 ((walk_takes t' w c ms m).0 h)))
 
   same_finish : (ms : List ℕ) → Same ms → (one ms).finish ≡ (other ms).finish
@@ -78,7 +77,7 @@ module _ (t t' : Tables) (v w : List ℕ) (b : BasicPlan t v) (c : BasicPlan t' 
   same_more : (ms : List ℕ) → Same ms → (m : ℕ) → Same (ms ++ (m ∷ []))
   same_more ms s m = taken_more t v m ms (fresh v) ∙ (ap₂ ◌++◌ s (onto (both_answer ms s m)) ∙ sym (taken_more t' w m ms (fresh w)))
     where
-      onto : {a b : Judgement} → Both a b → if_taken a m [] ≡ if_taken b m []
+      onto : {a b : Result ⊤ Refusal} → Both a b → if_taken a m [] ≡ if_taken b m []
       onto both_accepted = refl
       onto both_refused = refl
 
@@ -90,7 +89,7 @@ module _ (t t' : Tables) (v w : List ℕ) (b : BasicPlan t v) (c : BasicPlan t' 
       (ap₂ {C = List Reply} (λ a l. a ∷ l) (λ i. record { taken = onto (both_answer ms s k) i; finish = same_finish (ms ++ (k ∷ [])) (same_more ms s k) i })
       (replies-after (ms ++ (k ∷ [])) ks (same_more ms s k)))
     where
-      onto : {a b : Judgement} → Both a b → accepted? a ≡ accepted? b
+      onto : {a b : Result ⊤ Refusal} → Both a b → accepted? a ≡ accepted? b
       onto both_accepted = refl
       onto both_refused = refl
 

@@ -1,4 +1,5 @@
 -- Messages one after another, by induction over the list: from any progress, and from a fresh walk.
+use Rattle.std.specs.Prelude.{Ok}
 use Prim.Native.Nat.{ℕ, ◌-◌, ◌≤◌, ◌<◌}
 use native.Mathlib.Omega.{arith}
 use mathlib.Core.Path.{◌≡◌, refl, ap, sym, ◌∙◌, subst}
@@ -11,7 +12,6 @@ use lib.ListN.{length, replicate, length-set, length-replicate, get_or-eq_defaul
 use lib.Seq.{get_or-set_same, get_or-set_other}
 use borrow.Author.Tests.{ltb-true, ltb-false, eqb-true, eqb-false}
 use Rattle.refusals.specs.declared.Refusal.{Refusal}
-use Rattle.refusals.specs.declared.Judgement.TheVariants.{Accepted}
 use Rattle.tables.specs.Tables.{Tables, actions, outside?}
 use Rattle.plans.specs.Term.{Term, term_of}
 use Rattle.plans.specs.Place.{subterm}
@@ -71,7 +71,7 @@ by_case t plan m p e = go_on (outside? (actions t) m) refl
     go_on false o = subst (Case t plan m p) (sym (walk-on t plan p m e o)) (brought (take_message (actions t) plan m p) refl)
 
 accepted_exactly : {t : Tables} {plan : List ℕ} {m : ℕ} {p : Progress} {o : WalkOutcome} → Case t plan m p o
-    → (o.answer ≡ Accepted) ↔ ((q : Progress) × (take_message (actions t) plan m p ≡ some q))
+    → (o.answer ≡ Ok tt) ↔ ((q : Progress) × (take_message (actions t) plan m p ≡ some q))
 accepted_exactly (case_taken q d) = (λ h. (q, d), λ h. refl)
 accepted_exactly (case_kept r d) = (λ h. let z : ◌≡◌ {A = ℕ} 0 1 = cc in absurd (omega arith), λ h. never (sym d ∙ h.1))
 
@@ -277,10 +277,10 @@ module _ (t : Tables) (plan : List ℕ) (b : BasicPlan t plan) where
             from : ((g : Target) × Transitions (subplan 0 u) (messages_taken t plan (fresh plan) ms ++ (m ∷ [])) g) → (g : Target) × FromMark n plan (walked t plan (fresh plan) ms).marks (m ∷ []) g
             from (g, l) = let c = transitions_split (messages_taken t plan (fresh plan) ms) l in (g, by g c.0 c.1 c.2)
 
-        pub walk_takes : ((walk_outcome t plan m (walked t plan (fresh plan) ms)).answer ≡ Accepted) ↔ Begins (tree t u) (messages_taken t plan (fresh plan) ms ++ (m ∷ []))
+        pub walk_takes : ((walk_outcome t plan m (walked t plan (fresh plan) ms)).answer ≡ Ok tt) ↔ Begins (tree t u) (messages_taken t plan (fresh plan) ms ++ (m ∷ []))
         walk_takes = (λ h. (begins_exactly (tree t u) _).1 (to (answer.0 h)), λ h. answer.1 (from ((begins_exactly (tree t u) _).0 h)))
           where
-            answer : ((walk_outcome t plan m (walked t plan (fresh plan) ms)).answer ≡ Accepted) ↔ ((q : Progress) × (take_message n plan m (walked t plan (fresh plan) ms) ≡ some q))
+            answer : ((walk_outcome t plan m (walked t plan (fresh plan) ms)).answer ≡ Ok tt) ↔ ((q : Progress) × (take_message n plan m (walked t plan (fresh plan) ms) ≡ some q))
             answer = accepted_exactly (by_case t plan m (walked t plan (fresh plan) ms) (can_walk (walked t plan (fresh plan) ms).marks now_so.fits))
 
             step : ((q : Progress) × (take_message n plan m (walked t plan (fresh plan) ms) ≡ some q)) ↔ ((g : Target) × FromMark n plan (walked t plan (fresh plan) ms).marks (m ∷ []) g)

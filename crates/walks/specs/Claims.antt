@@ -1,11 +1,9 @@
 -- What is claimed of the calls of a walk, said of the paths of trees and of marked subplans. (Request 102.)
-use Rattle.std.specs.Prelude.{ℕ, ◌≤◌, ◌<◌, ◌≡◌, Bool, true, false, ◌↔◌, ◌⊎◌, length, get_or}
+use Rattle.std.specs.Prelude.{ℕ, ◌≤◌, ◌<◌, ◌≡◌, Bool, true, false, ◌↔◌, ◌⊎◌, length, get_or, Result, Ok, Err, ⊤}
 use mathlib.Core.List.{List, [], ◌∷◌, ◌++◌}
 use Rattle.std.proofs.Math.Option.{some}
 use Rattle.refusals.specs.declared.Place.TheVariants.{Nowhere}
 use Rattle.refusals.specs.declared.Refusal.{Refusal}
-use Rattle.refusals.specs.declared.Judgement.{Judgement}
-use Rattle.refusals.specs.declared.Judgement.TheVariants.{Accepted, Refused}
 use Rattle.tables.specs.Tables.{Tables, actions}
 use Rattle.plans.specs.Term.{Term}
 use Rattle.plans.specs.Judging.{plan_refusal}
@@ -30,9 +28,9 @@ pub data NotWalkable (t : Tables) (plan marks : List ℕ) : Refusal → Type 0 w
   other_length : AcceptedPlan t plan → (length marks ≡ length plan → ⊥) → NotWalkable t plan marks (record { number = 70; place = Nowhere })
 
 -- a message, kept in a list where it was taken
-abbrev pub if_taken : Judgement → ℕ → List ℕ → List ℕ
-if_taken Accepted m ms = m ∷ ms
-if_taken (Refused r) m ms = ms
+abbrev pub if_taken : Result ⊤ Refusal → ℕ → List ℕ → List ℕ
+if_taken (Ok tt) m ms = m ∷ ms
+if_taken (Err r) m ms = ms
 
 -- Calls of `walk` with messages one after another, from a progress.
 module _ (t : Tables) (plan : List ℕ) where
@@ -53,9 +51,9 @@ pub record Reply : Type 0 where
   pub taken : Bool
   pub finish : Bool
 
-abbrev pub accepted? : Judgement → Bool
-accepted? Accepted = true
-accepted? (Refused r) = false
+abbrev pub accepted? : Result ⊤ Refusal → Bool
+accepted? (Ok tt) = true
+accepted? (Err r) = false
 
 abbrev pub reply_of : WalkOutcome → Reply
 reply_of o = record { taken = accepted? o.answer; finish = o.progress.finish }
@@ -68,7 +66,7 @@ replies t plan p (m ∷ ms) = reply_of (walk_outcome t plan m p) ∷ replies t p
 -- What holds after the messages ms, brought one after another to a walk of the basic plan u that stood at p when it was fresh.
 pub record AfterMessages (t : Tables) (plan : List ℕ) (u : Term) (p : Progress) (ms : List ℕ) : Type 0 where
   -- "a message is taken exactly when some path of the tree begins with the messages taken so far and this one"
-  pub taken_exactly : (m : ℕ) → ((walk_outcome t plan m (walked t plan p ms)).answer ≡ Accepted) ↔ Begins (tree t u) (messages_taken t plan p ms ++ (m ∷ []))
+  pub taken_exactly : (m : ℕ) → ((walk_outcome t plan m (walked t plan p ms)).answer ≡ Ok tt) ↔ Begins (tree t u) (messages_taken t plan p ms ++ (m ∷ []))
   -- "whether exactly those messages can end in a finish"
   pub finish_exactly : ((walked t plan p ms).finish ≡ true) ↔ Finishes (tree t u) (messages_taken t plan p ms)
   -- "the set of all subplans that the messages so far can have led to": place k is marked exactly when they lead from the whole plan to the
@@ -90,9 +88,9 @@ pub record FreshClaims (t : Tables) (plan : List ℕ) (p : Progress) (o : WalkOu
   -- there is no other outcome
   pub nothing_else : (o ≡ accepted_outcome (fresh plan)) ⊎ ((r : Refusal) × (o ≡ refused_outcome r p))
   -- "For every list of messages from a fresh walk"
-  pub every_list : o.answer ≡ Accepted → (b : BasicPlan t plan) (ms : List ℕ) → AfterMessages t plan b.plan.term o.progress ms
+  pub every_list : o.answer ≡ Ok tt → (b : BasicPlan t plan) (ms : List ℕ) → AfterMessages t plan b.plan.term o.progress ms
   -- trees alone decide: a fresh walk of a plan with an alike tree, under whatever tables, takes the same messages and finishes alike at every point
-  pub trees_decide : o.answer ≡ Accepted → (b : BasicPlan t plan) (t' : Tables) (other : List ℕ) (c : BasicPlan t' other)
+  pub trees_decide : o.answer ≡ Ok tt → (b : BasicPlan t plan) (t' : Tables) (other : List ℕ) (c : BasicPlan t' other)
       → Alike (tree t b.plan.term) (tree t' c.plan.term) → (ms : List ℕ) → replies t plan o.progress ms ≡ replies t' other (fresh other) ms
 
 -- Message m, brought to the progress p, is taken and leaves the progress q.

@@ -1,9 +1,7 @@
 -- What the calls of a walk answer and leave. (Request 102; refusals 70 to 72, after 1 to 8 and 11 to 14.)
-use Rattle.std.specs.Prelude.{ℕ, Bool, true, false, not, ◌||◌, List, length, eqb}
+use Rattle.std.specs.Prelude.{ℕ, Bool, true, false, not, ◌||◌, List, length, eqb, Result, Ok, Err, ⊤}
 use Rattle.std.proofs.Math.Option.{Option, none, some}
 use Rattle.refusals.specs.declared.Refusal.{Refusal}
-use Rattle.refusals.specs.declared.Judgement.{Judgement}
-use Rattle.refusals.specs.declared.Judgement.TheVariants.{Accepted, Refused}
 use Rattle.refusals.specs.Refusal.{refuse_if, or_else}
 use Rattle.tables.specs.Tables.{Tables, actions, outside?}
 use Rattle.plans.specs.Basic.{basic_words?}
@@ -18,15 +16,15 @@ not_walkable_refusal t plan marks = or_else (plan_refusal t plan) (refuse_if (no
 
 -- everything that a call answers and leaves
 pub record WalkOutcome : Type 0 where
-  pub answer : Judgement
+  pub answer : Result ⊤ Refusal
   pub progress : Progress
 
 abbrev pub accepted_outcome : Progress → WalkOutcome
-accepted_outcome q = record { answer = Accepted; progress = q }
+accepted_outcome q = record { answer = Ok tt; progress = q }
 
 -- "A refused message changes nothing."
 abbrev pub refused_outcome : Refusal → Progress → WalkOutcome
-refused_outcome r p = record { answer = Refused r; progress = p }
+refused_outcome r p = record { answer = Err r; progress = p }
 
 -- the first refusal of a call, and else what follows
 abbrev pub unless_refused : Option Refusal → Progress → WalkOutcome → WalkOutcome

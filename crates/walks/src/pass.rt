@@ -3,10 +3,7 @@ ghost use Rattle.std.specs.Prelude.{◌≡◌, false, ◌<◌, length};
 ghost use Rattle.walks.specs.Pass.{Pass, look, pass, some_mark};
 ghost use Rattle.walks.specs.Turns.{Passing, Looked};
 
-// The words of choice, +, and of sequence, ·.
-const CHOICE: u8 = 64;
-
-const SEQUENCE: u8 = 65;
+use plans::{CHOICE, SEQUENCE};
 
 // Looks at the marked word i: a sum hands its mark to both operands; a product whose first factor is the message marks its second factor in
 // `next`; whether it is an action that is the message.
@@ -22,26 +19,26 @@ fn look(
     requires { Passing n plan.now starts.now left.old next.old × (i < length plan.now) }
     ensures { Looked n plan.now message i left.old next.old left.new next.new result }
 {
-    let word = plan[i];
-    if word == CHOICE {
-        let second = i - 1;
-        let first = starts[second] as usize - 1;
-        left[second] = 1;
-        left[first] = 1;
-        return false;
-    }
-    if word == SEQUENCE {
-        let second = i - 1;
-        let first = starts[second] as usize - 1;
-        if plan[first] == message {
-            next[second] = 1;
+    match plan[i] {
+        CHOICE => {
+            let (first, second) = paths::operands(starts, i);
+            left[second] = 1;
+            left[first] = 1;
+            false
         }
-        return false;
+        SEQUENCE => {
+            let (first, second) = paths::operands(starts, i);
+            if plan[first] == message {
+                next[second] = 1;
+            }
+            false
+        }
+        word => word == message,
     }
-    word == message
 }
 
-// The pass over the whole plan; whether the message finishes.
+// The pass over the whole plan; whether the message finishes. (The pass of `precedence` gathers something else at the same words: a common one would be
+// longer than both.)
 pub fn pass(
     n: u8,
     plan: &[u8],
@@ -56,13 +53,9 @@ pub fn pass(
         (record { left = left.old; next = next.old; ending = false })) }
 {
     let mut finishes = false;
-    let mut i = plan.len();
-    while 0 < i {
-        i -= 1;
+    for i in (0..plan.len()).rev() {
         if left[i] != 0 {
-            if look(n, plan, starts, message, i, left, next) {
-                finishes = true;
-            }
+            finishes |= look(n, plan, starts, message, i, left, next);
         }
     }
     finishes
@@ -72,12 +65,5 @@ pub fn pass(
 pub fn some_mark(marks: &[u8]) -> bool
     ensures { result ≡ some_mark marks.now }
 {
-    let mut i: usize = 0;
-    while i < marks.len() {
-        if marks[i] != 0 {
-            return true;
-        }
-        i += 1;
-    }
-    false
+    marks.iter().any(|&mark| 0 < mark)
 }

@@ -1,5 +1,6 @@
 -- What the reader takes from a written file is what was written; a file that the reader takes is the one written from what it read; and so
 -- a file is accepted exactly when it is the file of accepted tables and an accepted plan.
+use Rattle.std.specs.Prelude.{Result, Ok, Err}
 use Prim.Native.Nat.{ℕ, ◌+◌, ◌-◌, ◌/◌, ◌≤◌}
 use mathlib.Core.Path.{◌≡◌, refl, sym, ◌∙◌, ap, subst}
 use mathlib.Core.Bool.{Bool, true, false, ◌&&◌}
@@ -19,13 +20,9 @@ use Rattle.blocks.proofs.Made.{Bytes}
 use Rattle.plans.specs.Judging.{plan_refusal}
 use Rattle.plans.specs.Accepted.{AcceptedPlan}
 use Rattle.plans.proofs.Accepted.{accepted-plan}
-use Rattle.stations.specs.declared.StationRead.{StationRead}
-use Rattle.stations.specs.declared.StationRead.TheVariants.{Read, Refused as NotRead}
 use Rattle.stations.specs.File.{tables_held, plan_held, form_refusal, held_refusal, file_refusal, StationOutcome, unless_refused, station_outcome, station_report, station_reported}
 use Rattle.stations.proofs.Forms.{tables-long}
 use Rattle.stations.proofs.Reading.{areas-fit, station_reported as station_numbers}
-use Rattle.writing.specs.declared.StationWritten.{StationWritten}
-use Rattle.writing.specs.declared.StationWritten.TheVariants.{Written, Refused}
 use Rattle.writing.specs.Writing.{station_file, block_count, file_length, write_refusal, WriteOutcome, written_unless, write_outcome, written_report, write_reported}
 use Rattle.writing.specs.Claims.{stands_at, NotWritten, by_plan, short_area, WriteClaims, StationFile, ReadClaims}
 use Rattle.writing.proofs.File.{file-long, file-tables, file-plan, form_due}
@@ -54,7 +51,7 @@ module _ (t ws : List ℕ) (s : AcceptedPlan t ws) where
   -- "What the reader takes from a written file, into areas that hold it, is those tables and that plan": the answer and every byte
   pub read-written : (ta pa : List ℕ) → 2305 ≤ length ta → length ws ≤ length pa
       → ◌≡◌ {A = StationOutcome} (station_outcome (station_file t ws) ta pa)
-      (record { answer = Read (length ws); tables = padded t (length ta); plan = padded ws (length pa) })
+      (record { answer = Ok (length ws); tables = padded t (length ta); plan = padded ws (length pa) })
   unfolding station_outcome
   read-written ta pa h l = rw (file-accepted (length ta) (length pa) h l, file-tables t ws (omega (arith, long)), file-plan t ws)
 
@@ -86,19 +83,19 @@ module _ (f : List ℕ) (a b : ℕ) (e : file_refusal f a b ≡ none) where
         plan_fits = fits.1;
       }
 
-never_read : {P : Type 0} {r : Refusal} {k : ℕ} → ◌≡◌ {A = StationRead} (NotRead r) (Read k) → P
+never_read : {P : Type 0} {r : Refusal} {k : ℕ} → ◌≡◌ {A = Result ℕ Refusal} (Err r) (Ok k) → P
 never_read e = let q : ◌≡◌ {A = ℕ} 0 1 = cc in absurd (omega arith)
 
-read-size : {j k : ℕ} → ◌≡◌ {A = StationRead} (Read j) (Read k) → j ≡ k
+read-size : {j k : ℕ} → ◌≡◌ {A = Result ℕ Refusal} (Ok j) (Ok k) → j ≡ k
 read-size e = cc
 
 -- what reading a file leaves, where it is read
-module _ (f ta pa : List ℕ) (k : ℕ) (e : (station_outcome f ta pa).answer ≡ Read k) where
+module _ (f ta pa : List ℕ) (k : ℕ) (e : (station_outcome f ta pa).answer ≡ Ok k) where
   read-accepted : (file_refusal f (length ta) (length pa) ≡ none) × (length (plan_held f) ≡ k)
   unfolding station_outcome
   read-accepted = go (file_refusal f (length ta) (length pa)) e
     where
-      go : (o : Option Refusal) → (unless_refused o (tables_held f) (plan_held f) ta pa).answer ≡ Read k → (o ≡ none) × (length (plan_held f) ≡ k)
+      go : (o : Option Refusal) → (unless_refused o (tables_held f) (plan_held f) ta pa).answer ≡ Ok k → (o ≡ none) × (length (plan_held f) ≡ k)
       go none q = (refl, read-size q)
       go (some r) q = never_read q
 
@@ -120,7 +117,7 @@ module _ (f ta pa : List ℕ) (k : ℕ) (e : (station_outcome f ta pa).answer �
 
   pub written_again : Bytes f → (a : List ℕ) → length f ≤ length a
       → ◌≡◌ {A = WriteOutcome} (write_outcome (take 2305 (station_outcome f ta pa).tables) (take k (station_outcome f ta pa).plan) a)
-      (record { answer = Written (length f); area = padded f (length a) })
+      (record { answer = Ok (length f); area = padded f (length a) })
   unfolding write_outcome
   written_again bytes a h =
       let g : f ≡ station_file (tables_held f) (plan_held f) = file-back f form-read bytes in
@@ -147,17 +144,17 @@ read-claims f ta pa bytes = record {
 }
   where
     reads : (s : StationFile f (length ta) (length pa)) → ◌≡◌ {A = StationOutcome} (station_outcome f ta pa)
-        (record { answer = Read (length s.plan); tables = padded s.tables (length ta); plan = padded s.plan (length pa) })
+        (record { answer = Ok (length s.plan); tables = padded s.tables (length ta); plan = padded s.plan (length pa) })
     reads s =
         ap (λ (x : List ℕ). station_outcome x ta pa) s.file
         ∙ read-written s.tables s.plan s.accepted ta pa s.tables_fit s.plan_fits
 
 -- What is claimed of writing
 
-never_written : {P : Type 0} {r : Refusal} {k : ℕ} → ◌≡◌ {A = StationWritten} (Refused r) (Written k) → P
+never_written : {P : Type 0} {r : Refusal} {k : ℕ} → ◌≡◌ {A = Result ℕ Refusal} (Err r) (Ok k) → P
 never_written e = let q : ◌≡◌ {A = ℕ} 0 1 = cc in absurd (omega arith)
 
-written-size : {j k : ℕ} → ◌≡◌ {A = StationWritten} (Written j) (Written k) → j ≡ k
+written-size : {j k : ℕ} → ◌≡◌ {A = Result ℕ Refusal} (Ok j) (Ok k) → j ≡ k
 written-size e = cc
 
 some_same : {q r : Refusal} → ◌≡◌ {A = Option Refusal} (some q) (some r) → q ≡ r
@@ -166,20 +163,20 @@ some_same e = cc
 never_some : {P : Type 0} {r : Refusal} → ◌≡◌ {A = Option Refusal} none (some r) → P
 never_some e = let q : ◌≡◌ {A = ℕ} 0 1 = cc in absurd (omega arith)
 
-refused_same : {q r : Refusal} → ◌≡◌ {A = StationWritten} (Refused q) (Refused r) → q ≡ r
+refused_same : {q r : Refusal} → ◌≡◌ {A = Result ℕ Refusal} (Err q) (Err r) → q ≡ r
 refused_same e = cc
 
 module _ (t ws a : List ℕ) where
-  written-answer : write_refusal t ws (length a) ≡ none → (write_outcome t ws a).answer ≡ Written (file_length (length ws))
+  written-answer : write_refusal t ws (length a) ≡ none → (write_outcome t ws a).answer ≡ Ok (file_length (length ws))
   unfolding write_outcome
   written-answer e = rw e
 
   -- a refusal, and nothing else, is behind the answer
-  answer-refused : (r : Refusal) → (write_outcome t ws a).answer ≡ Refused r → write_refusal t ws (length a) ≡ some r
+  answer-refused : (r : Refusal) → (write_outcome t ws a).answer ≡ Err r → write_refusal t ws (length a) ≡ some r
   unfolding write_outcome
   answer-refused r e = go (write_refusal t ws (length a)) e
     where
-      go : (o : Option Refusal) → (written_unless o (file_length (length ws)) (station_file t ws) a).answer ≡ Refused r → o ≡ some r
+      go : (o : Option Refusal) → (written_unless o (file_length (length ws)) (station_file t ws) a).answer ≡ Err r → o ≡ some r
       go none q = never_written (sym q)
       go (some x) q = ap some (refused_same q)
 
@@ -198,12 +195,12 @@ module _ (t ws a : List ℕ) where
   refusal_answer (by_plan r e) = plan-refused t ws (length a) e
   refusal_answer (short_area p h) = short-refused t ws (length a) ((accepted-plan t ws).1 p) h
 
-  module _ (n : ℕ) (e : (write_outcome t ws a).answer ≡ Written n) where
+  module _ (n : ℕ) (e : (write_outcome t ws a).answer ≡ Ok n) where
     answer-written : (write_refusal t ws (length a) ≡ none) × (file_length (length ws) ≡ n)
     unfolding write_outcome
     answer-written = go (write_refusal t ws (length a)) e
       where
-        go : (o : Option Refusal) → (written_unless o (file_length (length ws)) (station_file t ws) a).answer ≡ Written n → (o ≡ none) × (file_length (length ws) ≡ n)
+        go : (o : Option Refusal) → (written_unless o (file_length (length ws)) (station_file t ws) a).answer ≡ Ok n → (o ≡ none) × (file_length (length ws) ≡ n)
         go none q = (refl, written-size q)
         go (some r) q = never_written q
 

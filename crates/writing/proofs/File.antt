@@ -1,6 +1,6 @@
 -- A written file: how long it is, each of its blocks, what the reader finds in it, and that the reader takes it.
 use Prim.Native.Nat.{ℕ, suc, ◌+◌, ◌-◌, ◌*◌, ◌/◌, ◌%◌, ◌≤◌, ◌<◌, min}
-use mathlib.Core.Path.{◌≡◌, refl, sym, ◌∙◌, ap}
+use mathlib.Core.Path.{◌≡◌, refl, ◌∙◌, ap}
 use mathlib.Core.Bool.{Bool, true, false, cond, ◌&&◌}
 use mathlib.Core.List.{List}
 use mathlib.Core.Option.{none}
@@ -25,18 +25,10 @@ part_length l k = length-take 504 (drop (504 * k) l) ∙ ap (min 504) (length-dr
 pub part-short : (l : List ℕ) (k : ℕ) → length (part l k) ≤ 504
 part-short l k = omega (arith, part_length l k)
 
--- a part as a slice has it: what is left where that is shorter, and else 504 of it
-pub part-rest : (l : List ℕ) (k : ℕ) → length l - 504 * k < 504 → take (length l - 504 * k) (drop (504 * k) l) ≡ part l k
+-- a part as a slice has it: 504 of the rest, or all of it where that is less
+pub part-least : (l : List ℕ) (k : ℕ) → part l k ≡ take 504 (take (length l - 504 * k) (drop (504 * k) l))
 unfolding part
-part-rest l k h =
-    take_all (length l - 504 * k) (drop (504 * k) l) (omega (arith, length-drop (504 * k) l))
-    ∙ sym (take_all 504 (drop (504 * k) l) (omega (arith, length-drop (504 * k) l)))
-
-pub part_full : (l : List ℕ) (k : ℕ) → take (504 * k + 504 - 504 * k) (drop (504 * k) l) ≡ part l k
-unfolding part
-part_full l k =
-    let e : 504 * k + 504 - 504 * k ≡ 504 = omega arith in
-    rw e
+part-least l k = rw (take_all (length l - 504 * k) (drop (504 * k) l) (omega (arith, length-drop (504 * k) l)))
 
 -- a list is its parts, where there are enough of them
 parts_all : (l : List ℕ) (m : ℕ) → length l ≤ 504 * m → joined (part l) 0 m ≡ l

@@ -1,4 +1,5 @@
 -- The blocks of a file put into an area one by one, and zeros behind them.
+use Rattle.std.specs.Prelude.{Ok}
 use Prim.Native.Nat.{ℕ, suc, ◌+◌, ◌-◌, ◌*◌, ◌≤◌, ◌<◌}
 use mathlib.Core.Path.{◌≡◌, refl, sym, ◌∙◌, ap}
 use mathlib.Core.List.{List, ◌++◌}
@@ -10,7 +11,6 @@ use lib.Seq.{drop-drop, length-take-le}
 use Rattle.areas.specs.Area.{overwrite, padded}
 use Rattle.areas.proofs.Area.{overwrite-two, overwrite_none, padded-whole}
 use Rattle.stations.specs.File.{joined}
-use Rattle.writing.specs.declared.StationWritten.TheVariants.{Written}
 use Rattle.writing.specs.Writing.{block_due, block_count, station_file, file_length, write_refusal, WriteOutcome, write_outcome}
 use Rattle.writing.proofs.Joined.{joined_full}
 use Rattle.writing.proofs.File.{block_due-long, file-long}
@@ -72,7 +72,7 @@ module _ {t ws a₀ a : List ℕ} {i : ℕ} (w : Writes t ws a₀ a i) where
 -- zeros past the file, where so many blocks are put
 pub writes_whole : (t ws a₀ a a' : List ℕ) (n i : ℕ) → write_refusal t ws (length a₀) ≡ none → n ≡ block_count (length ws) → Writes t ws a₀ a i → n ≤ i
     → a' ≡ padded (take (512 * n) a) (length a)
-    → ◌≡◌ {A = WriteOutcome} (record { answer = Written (512 * n); area = a' }) (write_outcome t ws a₀)
+    → ◌≡◌ {A = WriteOutcome} (record { answer = Ok (512 * n); area = a' }) (write_outcome t ws a₀)
 unfolding write_outcome file_length
 writes_whole t ws a₀ a a' n i e c w l p =
     let f : List ℕ = station_file t ws in

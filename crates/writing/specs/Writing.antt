@@ -1,5 +1,5 @@
 -- The station file of tables and a plan, and what writing it answers and leaves. (Request 106; 01, "Orders, station files, program".)
-use Rattle.std.specs.Prelude.{ℕ, ◌+◌, ◌-◌, ◌*◌, ◌/◌, cond, List, [], ◌∷◌, length, take, drop, ltb}
+use Rattle.std.specs.Prelude.{ℕ, ◌+◌, ◌-◌, ◌*◌, ◌/◌, cond, List, [], ◌∷◌, length, take, drop, ltb, Result, Ok, Err}
 use Rattle.std.proofs.Math.Option.{Option, none, some}
 use Rattle.refusals.specs.declared.Refusal.{Refusal}
 use Rattle.refusals.specs.Refusal.{refuse_if, or_else, Report, refused_report, reported}
@@ -8,8 +8,6 @@ use Rattle.blocks.specs.Block.{kind_due, block_of}
 use Rattle.tables.specs.Tables.{Tables}
 use Rattle.plans.specs.Judging.{plan_refusal}
 use Rattle.stations.specs.File.{joined}
-use Rattle.writing.specs.declared.StationWritten.{StationWritten}
-use Rattle.writing.specs.declared.StationWritten.TheVariants.{Written, Refused}
 
 -- part k of a list that is cut into parts of 504, the last as long as what is left
 unfoldable pub part : List ℕ → ℕ → List ℕ
@@ -41,22 +39,22 @@ write_refusal t ws area = or_else (plan_refusal t ws) (refuse_if (ltb area (file
 
 -- everything that writing a file answers and leaves
 pub record WriteOutcome : Type 0 where
-  pub answer : StationWritten
+  pub answer : Result ℕ Refusal
   pub area : List ℕ
 
 -- "an area shorter than the file gets 74 and keeps its bytes. A longer one is zero past the file.": a file and its length for the area a
 abbrev pub written_unless : Option Refusal → ℕ → List ℕ → List ℕ → WriteOutcome
-written_unless (some r) size file a = record { answer = Refused r; area = a }
-written_unless none size file a = record { answer = Written size; area = padded file (length a) }
+written_unless (some r) size file a = record { answer = Err r; area = a }
+written_unless none size file a = record { answer = Ok size; area = padded file (length a) }
 
 -- the tables t and the plan ws written into the area a
 unfoldable pub write_outcome : Tables → List ℕ → List ℕ → WriteOutcome
 write_outcome t ws a = written_unless (write_refusal t ws (length a)) (file_length (length ws)) (station_file t ws) a
 
 -- an answer in numbers: the file's length where it is written
-abbrev pub written_report : StationWritten → Report
-written_report (Written size) = record { number = 0; place = 0; values = size ∷ [] }
-written_report (Refused r) = refused_report r
+abbrev pub written_report : Result ℕ Refusal → Report
+written_report (Ok size) = record { number = 0; place = 0; values = size ∷ [] }
+written_report (Err r) = refused_report r
 
 -- what is reported of writing the tables t and the plan ws into an area of so many bytes
 abbrev pub write_reported : Tables → List ℕ → ℕ → Report

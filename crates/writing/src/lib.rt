@@ -8,19 +8,10 @@ ghost use Rattle.blocks.specs.Block.{kind_due, block_of};
 ghost use Rattle.writing.specs.Writing.{part, block_due, block_count, file_length, write_refusal, WriteOutcome, write_outcome};
 
 use blocks::{BYTES, CONTENT, TABLE_BLOCKS};
-use refusals::{Judgement, Refusal};
-
-// "an area shorter than the file".
-const SHORT_AREA: u8 = 74;
-
-// The file written, with its length; or the refusal.
-#[derive(Clone, Copy)]
-pub enum StationWritten {
-    Written { size: usize },
-    Refused(Refusal),
-}
+use refusals::{Reason, Refusal};
 
 // How many blocks the file of a plan of so many words has.
+#[tactic(auto, unfolding(crate::specs::Writing::block_count))]
 fn count_blocks(words: usize) -> usize
     requires { words ≤ most_words }
     ensures { result ≡ block_count words }
@@ -33,12 +24,8 @@ fn part_of(list: &[u8], k: usize) -> &[u8]
     requires { 504 * k ≤ length list.now }
     ensures { result.now ≡ part list.now k }
 {
-    let start = CONTENT * k;
-    if list.len() - start < CONTENT {
-        &list[start..]
-    } else {
-        &list[start..start + CONTENT]
-    }
+    let rest = &list[CONTENT * k..];
+    &rest[..CONTENT.min(rest.len())]
 }
 
 // Puts block i, which holds part k of a list, where it stands in the area.
@@ -57,6 +44,7 @@ fn put_part(list: &[u8], k: usize, i: usize, area: &mut [u8])
 }
 
 // Puts block i of the file of tables and a plan where it stands in the area.
+#[tactic(auto, unfolding(crate::specs::Writing::block_due, crate::specs::Writing::block_count, crate::specs::Writing::file_length))]
 fn put_block(tables: &[u8], plan: &[u8], i: usize, area: &mut [u8])
     requires { (length tables.now ≡ 2305) × (length plan.now ≤ most_words) × (i < block_count (length plan.now))
         × (file_length (length plan.now) ≤ length area.old) }
@@ -70,37 +58,29 @@ fn put_block(tables: &[u8], plan: &[u8], i: usize, area: &mut [u8])
 }
 
 // Refusals 1 to 8, 11 to 14 of the tables and the plan, then 74 for an area of so many bytes, shorter than the file.
-fn judge_writing(tables: &[u8], plan: &[u8], area: usize) -> Judgement
+fn judge_writing(tables: &[u8], plan: &[u8], area: usize) -> Result<(), Refusal>
     ensures { result ≡ judged (write_refusal tables.now plan.now area) }
 {
-    let judgement = plans::judge_plan(tables, plan);
-    if let Judgement::Refused(_) = judgement {
-        return judgement;
-    }
+    plans::judge_plan(tables, plan)?;
     if area < BYTES * count_blocks(plan.len()) {
-        refusals::refused(SHORT_AREA)
+        Err(Refusal::from(Reason::ShortArea))
     } else {
-        Judgement::Accepted
+        Ok(())
     }
 }
 
 // Writes the station file of tables and a plan into an area, zeros after: the file's length. Refusals 1 to 8, 11 to 14, then 74 for an area shorter
 // than the file, leave the area as it is.
-pub fn write_station(tables: &[u8], plan: &[u8], area: &mut [u8]) -> StationWritten
+pub fn write_station(tables: &[u8], plan: &[u8], area: &mut [u8]) -> Result<usize, Refusal>
     ensures whole { ◌≡◌ {A = WriteOutcome} (record { answer = result; area = area.new })
         (write_outcome tables.now plan.now area.old) }
 {
-    match judge_writing(tables, plan, area.len()) {
-        Judgement::Refused(refusal) => {
-            return StationWritten::Refused(refusal);
-        }
-        Judgement::Accepted => {}
-    }
+    judge_writing(tables, plan, area.len())?;
     let count = count_blocks(plan.len());
     for i in 0..count {
         put_block(tables, plan, i, area);
     }
     let size = BYTES * count;
     areas::clear_from(area, size);
-    StationWritten::Written { size }
+    Ok(size)
 }

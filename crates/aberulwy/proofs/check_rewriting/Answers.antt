@@ -5,4 +5,4 @@ use Rattle.aberulwy.proofs.check_rewriting.Goals as goal
 pub returns : goal.returns
 returns c =
     let the_whole = check_contract _ _ _ _ _ _ _ c.check_rewriting.ensures.whole in
-    record { whole = the_whole.0; numbers = the_whole.1.0; claims = the_whole.1.1.0; single = the_whole.1.1.1 }
+    record { whole = the_whole.0; numbers = the_whole.1; claims = the_whole.2; single = the_whole.3 }

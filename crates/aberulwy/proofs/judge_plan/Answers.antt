@@ -8,4 +8,6 @@ use Rattle.aberulwy.proofs.judge_plan.Goals as goal
 pub returns : goal.returns
 returns c =
     let t = c.args.tables.now in
-    let ws = c.args.plan.now in record { whole = c.judge_plan.ensures.whole; numbers = numbers_of (plan_refusal t ws) _ c.judge_plan.ensures.whole; accepts = accepts_iff (plan_refusal t ws) _ _ c.judge_plan.ensures.whole (accepted-plan t ws) }
+    let ws = c.args.plan.now in
+    let whole = c.judge_plan.ensures.whole in
+    record { whole = whole; numbers = numbers_of (plan_refusal t ws) _ whole; accepts = accepts_iff (plan_refusal t ws) _ _ whole (accepted-plan t ws) }

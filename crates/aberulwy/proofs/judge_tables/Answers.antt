@@ -6,4 +6,5 @@ use Rattle.aberulwy.proofs.judge_tables.Goals as goal
 pub returns : goal.returns
 returns c =
     let t = c.args.tables.now in
-    record { whole = c.judge_tables.ensures.whole; numbers = numbers_of (table_refusal t) _ c.judge_tables.ensures.whole; accepts = c.judge_tables.ensures.accepts }
+    let below = c.judge_tables.ensures in
+    record { whole = below.whole; numbers = numbers_of (table_refusal t) _ below.whole; accepts = below.accepts }

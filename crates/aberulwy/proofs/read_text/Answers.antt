@@ -11,4 +11,9 @@ returns c =
     let k = c.args in
     let e : ◌≡◌ {A = TextOutcome} (record { answer = c.read_text.result; plan = c.read_text.new.plan })
     (text_outcome k.tables.now k.text.now k.plan.now) =
-    c.read_text.ensures.whole in record { whole = e; numbers = ap (λ (o : TextOutcome). text_report o.answer) e ∙ text_numbers k.tables.now k.text.now k.plan.now; claims = subst (λ (o : TextOutcome). TextClaims k.tables.now k.text.now k.plan.now o) (sym e) (text_claims k.tables.now k.text.now k.plan.now) }
+    c.read_text.ensures.whole in
+    record {
+      whole = e;
+      numbers = ap (λ (o : TextOutcome). text_report o.answer) e ∙ text_numbers k.tables.now k.text.now k.plan.now;
+      claims = subst (λ (o : TextOutcome). TextClaims k.tables.now k.text.now k.plan.now o) (sym e) (text_claims k.tables.now k.text.now k.plan.now);
+    }

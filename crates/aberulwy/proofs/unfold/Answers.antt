@@ -5,4 +5,4 @@ use Rattle.aberulwy.proofs.unfold.Goals as goal
 pub returns : goal.returns
 returns c =
     let the_whole = unfold_contract _ _ _ _ _ _ _ c.unfold.ensures.whole in
-    record { whole = the_whole.0; numbers = the_whole.1.0; claims = the_whole.1.1 }
+    record { whole = the_whole.0; numbers = the_whole.1; claims = the_whole.2 }

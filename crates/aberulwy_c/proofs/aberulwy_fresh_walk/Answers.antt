@@ -4,4 +4,6 @@ use Rattle.aberulwy_c.proofs.aberulwy_fresh_walk.Goals as goal
 
 pub returns : goal.returns
 returns c =
-    record { whole = walk_returned_as c.fresh_walk-answer.ensures.whole c.hand_walked.ensures; claims = fresh-seen _ _ _ c.fresh_walk-answer.ensures.whole c.fresh_walk-answer.ensures.claims c.hand_walked.ensures }
+    let call = c.fresh_walk-answer.ensures in
+    let handed = c.hand_walked.ensures in
+    record { whole = walk_returned_as call.whole handed; claims = fresh-seen _ _ _ call.whole call.claims handed }

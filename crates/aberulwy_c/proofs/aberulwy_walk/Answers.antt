@@ -4,4 +4,6 @@ use Rattle.aberulwy_c.proofs.aberulwy_walk.Goals as goal
 
 pub returns : goal.returns
 returns c =
-    record { whole = walk_returned_as c.walk-answer.ensures.whole c.hand_walked.ensures; claims = walk-seen _ _ _ _ c.walk-answer.ensures.whole c.walk-answer.ensures.claims c.hand_walked.ensures }
+    let call = c.walk-answer.ensures in
+    let handed = c.hand_walked.ensures in
+    record { whole = walk_returned_as call.whole handed; claims = walk-seen _ _ _ _ call.whole call.claims handed }

@@ -1,16 +1,20 @@
--- `blocks::zero_past` meets its contract. The invariant: the content from byte k on is zero where it is from the count on.
-use Rattle.std.proofs.Common.{refl, ◌∙◌, arith}
-use Rattle.blocks.proofs.Reading.{zero_turn, zero_stop, zero_end}
+-- What the library says of the bytes that it tested.
+use Rattle.std.proofs.Common.{ℕ, ◌==◌, ◌∙◌, drop, rules, tests}
+use Rattle.std.proofs.lemmas.Iterator.{YieldsList-from_slice}
+use Rattle.std.proofs.lemmas.Iterator.Adapters.{YieldsList-from_skip}
+use Rattle.std.proofs.lemmas.Iterator.Consumers.{YieldsList-at}
+use Rattle.std.proofs.lemmas.Iterator.Search.{all_from_yields_List}
+use Rattle.blocks.specs.Block.{content}
+use Rattle.blocks.proofs.Reading.{all_zeros}
 use Rattle.blocks.proofs.zero_past.Goals as goal
 
-pub loop-k-init : goal.loop-k-init
-loop-k-init c = refl
-
-pub returns-then-block-k-ne0 : goal.returns-then-block-k-ne0
-returns-then-block-k-ne0 c = record { whole = zero_stop c.args.block.now (omega arith) c.loop-k.k (omega arith) c.if-block-k-ne0.true ∙ c.loop-k.invariant }
-
-pub loop-k-preserved : goal.loop-k-preserved
-loop-k-preserved c = zero_turn c.args.block.now (omega arith) c.loop-k.k (omega arith) c.if-block-k-ne0.false ∙ c.loop-k.invariant
-
 pub returns : goal.returns
-returns c = record { whole = zero_end c.args.block.now (omega arith) c.loop-k.k (omega arith) ∙ c.loop-k.invariant }
+unfolding content
+returns c =
+    let held = content c.args.block.now in
+    let bytes = YieldsList-at c.skip.ensures.source (YieldsList-from_slice held c.iter.ensures.rest) in
+    let behind = YieldsList-from_skip c.args.count bytes c.skip.ensures.count in
+    record {
+      whole = all_from_yields_List (λ (v : ℕ). v == 0) _ _ _ c.all.ensures.ran behind (λ x b q k. search (rules, tests))
+          ∙ all_zeros (drop c.args.count held);
+    }

@@ -11,4 +11,4 @@ pub returns : goal.returns
 returns c =
     let a = c.args in
     let e = c.copy_in.ensures.0 in
-    (rw c.no_step-made.ensures refl, rw e (end-written a.right.now (most_words - length a.plan.now) a.plan.now (omega arith)), rw e (overwrite-length a.right.now _ a.plan.now (omega arith) ∙ (omega arith)))
+    (rw c.no_step.ensures refl, rw e (end-written a.right.now (most_words - length a.plan.now) a.plan.now (omega arith)), rw e (overwrite-length a.right.now _ a.plan.now (omega arith) ∙ (omega arith)))

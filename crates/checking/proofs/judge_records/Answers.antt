@@ -1,68 +1,53 @@
 -- `checking::judge_records` meets its contract. The loop's invariant: what is found from the position on, or was found before it, is what is found of all
 -- records. The measure is the bytes left.
 use native.Mathlib.Omega.{arith}
-use mathlib.Core.Path.{◌≡◌, refl, sym, ◌∙◌}
-use Rattle.rewritings.specs.declared.Record.TheVariants.{End}
-use Rattle.rewritings.specs.Reading.{record_at}
-use Rattle.rewritings.proofs.Reading.{StepRead, BackRead, records-step, records-back}
-use Rattle.checking.proofs.Judging.{judged-step, judged-back, judged_cut, judged_unknown, judged_lefts}
-use Rattle.checking.proofs.judge_records.Goals.{In-End, In-Step, In-Back}
+use mathlib.Core.Path.{sym, ◌∙◌, ap}
+use Rattle.std.specs.Prelude.{Some}
+use Rattle.std.specs.Result.{result_and}
+use Rattle.rewritings.proofs.Reading.{BackRead, records-step, records-back}
+use Rattle.checking.proofs.Judging.{law-judged, left-judged, judged-step, judged-back, judged_cut, judged-all}
+use Rattle.checking.proofs.judge_records.Goals.{In-Back, in-Step, in-Back}
 use Rattle.checking.proofs.judge_records.Goals as goal
 
-ended : (c : In-End) → End ≡ record_at c.args.rewriting.now c.loop-refusal.at
-ended c = sym c.in-End.is ∙ c.record_at-record.ensures
+back : (c : In-Back) → BackRead c.args.rewriting.now c.loop-record.at c.in-Back.law c.in-Back.place c.in-Back.from c.in-Back.next
+back c = records-back _ _ _ _ _ _ (ap Some (sym c.in-Back.is) ∙ c.in-Some.ensures)
 
-step : (c : In-Step) → StepRead c.args.rewriting.now c.loop-refusal.at c.in-Step.law c.in-Step.field-1
-    c.in-Step.next
-step c = records-step _ _ _ _ _ (sym c.in-Step.is ∙ c.record_at-record.ensures)
+pub slice_bounds-judge_words_as-count : goal.slice_bounds-judge_words_as-count
+slice_bounds-judge_words_as-count c = (back (goal.at.slice_bounds-judge_words_as-count c).In-Back).words-there
 
-back : (c : In-Back) → BackRead c.args.rewriting.now c.loop-refusal.at c.in-Back.field-0 c.in-Back.field-1
-    c.in-Back.from c.in-Back.next
-back c = records-back _ _ _ _ _ _ (sym c.in-Back.is ∙ c.record_at-record.ensures)
+pub slice_bounds-judge_words_as-start : goal.slice_bounds-judge_words_as-start
+slice_bounds-judge_words_as-start c = (back (goal.at.slice_bounds-judge_words_as-start c).In-Back).words-there
 
-pub loop-refusal-init : goal.loop-refusal-init
-loop-refusal-init c = record { within = omega arith; few = omega arith; cut = refl; laws = refl; lefts = refl }
+pub slice_bounds-judge_words_as-end : goal.slice_bounds-judge_words_as-end
+slice_bounds-judge_words_as-end c = (back (goal.at.slice_bounds-judge_words_as-end c).In-Back).within
+
+pub loop-record-smaller : goal.loop-record-smaller
+loop-record-smaller c =
+    elim c.match-record.branch [
+      | in-Step w ↦
+          let r = records-step _ _ _ _ _ (ap Some (sym w.in-Step.is) ∙ c.in-Some.ensures) in
+          omega (arith, w.at-is, r.after, r.within)
+      | in-Back w ↦
+          let r = records-back _ _ _ _ _ _ (ap Some (sym w.in-Back.is) ∙ c.in-Some.ensures) in
+          omega (arith, w.at-is, r.after, r.words-there, r.within)
+    ]
+
+pub loop-record-preserved : goal.loop-record-preserved
+loop-record-preserved c =
+    elim c.match-record.branch [
+      | in-Step w ↦
+          let r = records-step _ _ _ _ _ (ap Some (sym w.in-Step.is) ∙ c.in-Some.ensures) in
+          let j = law-judged _ _ _ _ (w.and-unknown.ensures ∙ ap (result_and c.loop-record.unknown) w.judge_law.ensures) in
+          rw (w.at-is, w.unknown-is, w.no_plan-is) (judged-step _ _ _ _ _ _ c.loop-record.invariant _ _ _ r _ j)
+      | in-Back w ↦
+          let r = records-back _ _ _ _ _ _ (ap Some (sym w.in-Back.is) ∙ c.in-Some.ensures) in
+          let e = rw w.at-refusal.ensures at w.judge_words_as.ensures in
+          let j = left-judged _ _ _ _ _ (w.and-no_plan.ensures ∙ ap (result_and c.loop-record.no_plan) e) in
+          rw (w.at-is, w.unknown-is, w.no_plan-is) (judged-back _ _ _ _ _ _ c.loop-record.invariant _ _ _ _ r _ j)
+    ]
 
 pub returns-then-at-rewriting : goal.returns-then-at-rewriting
-returns-then-at-rewriting c =
-    judged_cut _ _ _ _ _ _ c.loop-refusal.invariant (ended (goal.at.returns-then-at-rewriting c).In-End) c.if-at-rewriting.true
+returns-then-at-rewriting c = rw c.from.ensures (judged_cut _ _ _ _ _ _ c.loop-record.invariant c.in_default.ensures c.if-at-rewriting.true)
 
-pub returns-in-Refused : goal.returns-in-Refused
-returns-in-Refused c =
-    judged_unknown _ _ _ _ _ _ c.loop-refusal.invariant (ended (goal.at.returns-in-Refused c).In-End) c.if-at-rewriting.false _ c.in-Refused.is
-
-pub returns-in-Accepted : goal.returns-in-Accepted
-returns-in-Accepted c =
-    judged_lefts _ _ _ _ _ _ c.loop-refusal.invariant (ended (goal.at.returns-in-Accepted c).In-End) c.if-at-rewriting.false c.in-Accepted.is
-
-pub overflow_add-step : goal.overflow_add-step
-overflow_add-step c =
-    let r = step (goal.at.overflow_add-step c).In-Step in omega (arith, r.after, r.within, c.loop-refusal.invariant.few)
-
-pub loop-refusal-smaller-in-Step : goal.loop-refusal-smaller-in-Step
-loop-refusal-smaller-in-Step c = let r = step (goal.at.loop-refusal-smaller-in-Step c).In-Step in omega (arith, r.after, r.within)
-
-pub loop-refusal-preserved-in-Step : goal.loop-refusal-preserved-in-Step
-loop-refusal-preserved-in-Step c =
-    judged-step _ _ _ _ _ _ c.loop-refusal.invariant _ _ _ (step (goal.at.loop-refusal-preserved-in-Step c).In-Step) _ c.judge_law-unknown.ensures
-
-pub slice_bounds-judge_left-count : goal.slice_bounds-judge_left-count
-slice_bounds-judge_left-count c = (back (goal.at.slice_bounds-judge_left-count c).In-Back).words-there
-
-pub slice_bounds-judge_left-start : goal.slice_bounds-judge_left-start
-slice_bounds-judge_left-start c = (back (goal.at.slice_bounds-judge_left-start c).In-Back).words-there
-
-pub slice_bounds-judge_left-end : goal.slice_bounds-judge_left-end
-slice_bounds-judge_left-end c = (back (goal.at.slice_bounds-judge_left-end c).In-Back).within
-
-pub overflow_add-step-in-Back : goal.overflow_add-step-in-Back
-overflow_add-step-in-Back c =
-    let r = back (goal.at.overflow_add-step-in-Back c).In-Back in
-    omega (arith, r.after, r.words-there, r.within, c.loop-refusal.invariant.few)
-
-pub loop-refusal-smaller : goal.loop-refusal-smaller
-loop-refusal-smaller c = let r = back (goal.at.loop-refusal-smaller c).In-Back in omega (arith, r.after, r.words-there, r.within)
-
-pub loop-refusal-preserved : goal.loop-refusal-preserved
-loop-refusal-preserved c =
-    judged-back _ _ _ _ _ _ c.loop-refusal.invariant _ _ _ _ (back (goal.at.loop-refusal-preserved c).In-Back) _ c.judge_left-no_plan.ensures
+pub returns : goal.returns
+returns c = judged-all _ _ _ _ _ _ c.loop-record.invariant c.in_default.ensures c.if-at-rewriting.false _ c.and.ensures

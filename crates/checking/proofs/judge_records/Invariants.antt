@@ -5,8 +5,8 @@ use lib.ListN.{length}
 use Rattle.checking.proofs.Judging.{JudgedTo}
 use Rattle.checking.proofs.judge_records.Given as goal
 
-abbrev pub invariant-loop-refusal : goal.invariant-loop-refusal
-invariant-loop-refusal l = JudgedTo l.n l.rewriting l.at l.step l.unknown l.no_plan
+abbrev pub invariant-loop-record : goal.invariant-loop-record
+invariant-loop-record l = JudgedTo l.n l.rewriting l.at l.step l.unknown l.no_plan
 
-abbrev pub decreases-loop-refusal : goal.decreases-loop-refusal
-decreases-loop-refusal l = length l.rewriting - l.at
+abbrev pub decreases-loop-record : goal.decreases-loop-record
+decreases-loop-record l = length l.rewriting - l.at

@@ -1,25 +1,26 @@
 -- `judge_rewriting` meets its contract: each test in turn is the first refusal that may come.
-use mathlib.Core.Path.{◌≡◌, refl, sym, ◌∙◌}
-use mathlib.Core.Option.{none}
+use mathlib.Core.Path.{refl, sym, ◌∙◌}
 use borrow.Author.Tests.{lt-ltb, le-ltb}
+use Rattle.std.proofs.lemmas.Result.{err_from_is_err_and}
 use Rattle.refusals.proofs.Judging.{accepted_none, refused_some}
-use Rattle.plans.specs.Judging.{words_refusal}
 use Rattle.checking.specs.Checking.{rewriting_refusal}
-use Rattle.checking.proofs.judge_rewriting.Goals.{In-Accepted}
 use Rattle.checking.proofs.judge_rewriting.Goals as goal
 
--- the claimed plan is accepted
-claimed : (c : In-Accepted) → words_refusal c.args.n c.args.claimed.now ≡ none
-claimed c = accepted_none _ (sym c.judge_words.ensures.whole ∙ c.in-Accepted.is)
-
-pub returns-in-Refused : goal.returns-in-Refused
+pub returns-in_err-judge_words_as : goal.returns-in_err-judge_words_as
 unfolding rewriting_refusal
-returns-in-Refused c = rw (refused_some _ _ (sym c.judge_words.ensures.whole ∙ c.in-Refused.is)) refl
+returns-in_err-judge_words_as c =
+    let p = err_from_is_err_and c.from_residual.result c.from_residual.ensures.1 in
+    let e = rw c.from.ensures at c.judge_words_as.ensures in
+    rw (p.1, p.2, refused_some _ _ (sym e ∙ c.in_err-judge_words_as.was)) refl
 
 pub returns-then-limit-start : goal.returns-then-limit-start
 unfolding rewriting_refusal
-returns-then-limit-start c = rw (claimed (goal.at.returns-then-limit-start c).In-Accepted, lt-ltb _ _ c.if-limit-start.true) refl
+returns-then-limit-start c =
+    let e = rw c.from.ensures at c.judge_words_as.ensures in
+    rw (accepted_none _ (sym e ∙ c.in_ok-judge_words_as.was), lt-ltb _ _ c.if-limit-start.true, c.from-then-limit-start.ensures) refl
 
 pub returns : goal.returns
 unfolding rewriting_refusal
-returns c = rw (claimed (goal.at.returns c).In-Accepted, le-ltb _ _ c.if-limit-start.false, c.judge_records.ensures) refl
+returns c =
+    let e = rw c.from.ensures at c.judge_words_as.ensures in
+    rw (accepted_none _ (sym e ∙ c.in_ok-judge_words_as.was), le-ltb _ _ c.if-limit-start.false, c.judge_records.ensures) refl

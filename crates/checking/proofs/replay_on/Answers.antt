@@ -1,23 +1,24 @@
 -- `replay_on` meets its contract. The loop's invariant: the records left, replayed on the plan under work, have the outcome of the whole
 -- rewriting, their laws are known and their left sides are accepted plans. The measure is the bytes left.
 use Prim.Native.Nat.{◌<◌}
-use mathlib.Core.Path.{refl, sym, ◌∙◌}
-use Rattle.rewritings.proofs.Reading.{StepRead, BackRead, records-end, records-step, records-back}
-use Rattle.checking.proofs.Turning.{turn_end, law-next, left-next, step-turn, back-turn, turn-done, turn-fails, turn-long, forward_of, backward_of}
+use mathlib.Core.Path.{refl, sym, ◌∙◌, ap}
 use native.Mathlib.Omega.{arith}
+use Rattle.std.specs.Prelude.{Some}
+use Rattle.std.proofs.lemmas.Result.{err_from_is_err_and}
+use Rattle.rewritings.proofs.Reading.{StepRead, BackRead, records-end, records-step, records-back}
+use Rattle.checking.proofs.Turning.{turn_end, law-next, left-next, step-turn, back-turn, turn-done, turn-stopped, forward_of, backward_of}
 use Rattle.checking.proofs.replay_on.Goals.{In-Step, In-Back}
 use Rattle.checking.proofs.replay_on.Goals as goal
 
 -- what a turn read
-read : (c : In-Step) → StepRead c.args.rewriting.now c.loop-law.at c.in-Step.law c.in-Step.place c.in-Step.next
-read c = records-step _ _ _ _ _ (sym c.in-Step.is ∙ c.record_at-record.ensures)
+read : (c : In-Step) → StepRead c.args.rewriting.now c.loop-record.at c.in-Step.law c.in-Step.place c.in-Step.next
+read c = records-step _ _ _ _ _ (ap Some (sym c.in-Step.is) ∙ c.in-Some.ensures)
 
-back_read : (c : In-Back) → BackRead c.args.rewriting.now c.loop-law.at c.in-Back.law c.in-Back.place c.in-Back.from
-    c.in-Back.next
-back_read c = records-back _ _ _ _ _ _ (sym c.in-Back.is ∙ c.record_at-record.ensures)
+back_read : (c : In-Back) → BackRead c.args.rewriting.now c.loop-record.at c.in-Back.law c.in-Back.place c.in-Back.from c.in-Back.next
+back_read c = records-back _ _ _ _ _ _ (ap Some (sym c.in-Back.is) ∙ c.in-Some.ensures)
 
-pub loop-law-init : goal.loop-law-init
-loop-law-init c =
+pub loop-record-init : goal.loop-record-init
+loop-record-init c =
     let p = c.requires in
     record {
       working = p.working.0;
@@ -29,15 +30,15 @@ loop-law-init c =
       rest = λ claimed. rw p.working.2 refl;
     }
 
-pub returns-in-End : goal.returns-in-End
-returns-in-End c = turn_end _ _ _ _ _ _ _ _ _ _ _ c.loop-law.invariant (records-end _ _ (sym c.in-End.is ∙ c.record_at-record.ensures))
+pub returns : goal.returns
+returns c = turn_end _ _ _ _ _ _ _ _ _ _ _ c.loop-record.invariant (records-end _ _ c.in_default.ensures)
 
-pub make_step-made-requires : goal.make_step-made-requires
-make_step-made-requires c =
-    let l = c.loop-law in
+pub make_step-requires : goal.make_step-requires
+make_step-requires c =
+    let l = c.loop-record in
     let p = c.requires in
     let g = l.invariant in
-    let r = read (goal.at.make_step-made-requires c).In-Step in
+    let r = read (goal.at.make_step-requires c).In-Step in
     let k = law-next _ _ _ _ _ _ _ _ _ _ _ g _ _ _ r in
     let few : l.gap.made.steps < 18446744073709551615 = omega (arith, g.few, r.within, r.after) in
     record {
@@ -46,39 +47,37 @@ make_step-made-requires c =
       working = (g.working, g.kept);
     }
 
-pub loop-law-smaller-in-Done : goal.loop-law-smaller-in-Done
-loop-law-smaller-in-Done c = let r = read (goal.at.loop-law-smaller-in-Done c).In-Step in omega (arith, r.within, r.after)
+pub loop-record-smaller-in-Step : goal.loop-record-smaller-in-Step
+loop-record-smaller-in-Step c = let r = read (goal.at.loop-record-smaller-in-Step c).In-Step in omega (arith, r.within, r.after)
 
-pub loop-law-preserved-in-Done : goal.loop-law-preserved-in-Done
-loop-law-preserved-in-Done c =
-    let i = c.loop-law.invariant in
-    turn-done _ _ _ _ _ _ _ _ _ _ _ i _ _ (step-turn _ _ _ _ _ _ _ _ _ _ _ i _ _ _ (read (goal.at.loop-law-preserved-in-Done c).In-Step)) _ _ _ _ _ _ (forward_of _ _ _ _ _ _ _ _ _ _ _ _ _ _ c.make_step-made.ensures) c.make_step-made.auto.old c.in-Done.is
+pub loop-record-preserved-in-Step : goal.loop-record-preserved-in-Step
+loop-record-preserved-in-Step c =
+    let i = c.loop-record.invariant in
+    let u = step-turn _ _ _ _ _ _ _ _ _ _ _ i _ _ _ (read (goal.at.loop-record-preserved-in-Step c).In-Step) in
+    turn-done _ _ _ _ _ _ _ _ _ _ _ i _ _ u _ _ _ _ _ (forward_of _ _ _ _ _ _ _ _ _ _ _ _ _ _ c.make_step.ensures) _ c.make_step.auto.old c.in_ok-gap-in-Step.was
 
-pub returns-in-Fails : goal.returns-in-Fails
-returns-in-Fails c =
-    let i = c.loop-law.invariant in
-    turn-fails _ _ _ _ _ _ _ _ _ _ _ i _ _ (step-turn _ _ _ _ _ _ _ _ _ _ _ i _ _ _ (read (goal.at.returns-in-Fails c).In-Step)) _ _ _ _ _ _ (forward_of _ _ _ _ _ _ _ _ _ _ _ _ _ _ c.make_step-made.ensures) c.in-Fails.is
+pub returns-in_err-gap-in-Step : goal.returns-in_err-gap-in-Step
+returns-in_err-gap-in-Step c =
+    let i = c.loop-record.invariant in
+    let u = step-turn _ _ _ _ _ _ _ _ _ _ _ i _ _ _ (read (goal.at.returns-in_err-gap-in-Step c).In-Step) in
+    let p = err_from_is_err_and c.from_residual.result c.from_residual.ensures.1 in
+    rw (p.1, p.2) (turn-stopped _ _ _ _ _ _ _ _ _ _ _ i _ _ u _ _ _ _ _ (forward_of _ _ _ _ _ _ _ _ _ _ _ _ _ _ c.make_step.ensures) _ c.in_err-gap-in-Step.was)
 
-pub returns-in-Long : goal.returns-in-Long
-returns-in-Long c =
-    let i = c.loop-law.invariant in
-    turn-long _ _ _ _ _ _ _ _ _ _ _ i _ _ (step-turn _ _ _ _ _ _ _ _ _ _ _ i _ _ _ (read (goal.at.returns-in-Long c).In-Step)) _ _ _ _ _ _ (forward_of _ _ _ _ _ _ _ _ _ _ _ _ _ _ c.make_step-made.ensures) c.in-Long.is
+pub slice_bounds-carried-count : goal.slice_bounds-carried-count
+slice_bounds-carried-count c = (back_read (goal.at.slice_bounds-carried-count c).In-Back).words-there
 
-pub slice_bounds-step_back-count : goal.slice_bounds-step_back-count
-slice_bounds-step_back-count c = let r = back_read (goal.at.slice_bounds-step_back-count c).In-Back in omega (arith, r.words-there)
+pub slice_bounds-carried-start : goal.slice_bounds-carried-start
+slice_bounds-carried-start c = (back_read (goal.at.slice_bounds-carried-start c).In-Back).words-there
 
-pub slice_bounds-step_back-start : goal.slice_bounds-step_back-start
-slice_bounds-step_back-start c = let r = back_read (goal.at.slice_bounds-step_back-start c).In-Back in omega (arith, r.words-there)
+pub slice_bounds-carried-end : goal.slice_bounds-carried-end
+slice_bounds-carried-end c = (back_read (goal.at.slice_bounds-carried-end c).In-Back).within
 
-pub slice_bounds-step_back-end : goal.slice_bounds-step_back-end
-slice_bounds-step_back-end c = let r = back_read (goal.at.slice_bounds-step_back-end c).In-Back in omega (arith, r.within)
-
-pub step_back-made-requires : goal.step_back-made-requires
-step_back-made-requires c =
-    let l = c.loop-law in
+pub step_back-requires : goal.step_back-requires
+step_back-requires c =
+    let l = c.loop-record in
     let p = c.requires in
     let g = l.invariant in
-    let r = back_read (goal.at.step_back-made-requires c).In-Back in
+    let r = back_read (goal.at.step_back-requires c).In-Back in
     let k = left-next _ _ _ _ _ _ _ _ _ _ _ g _ _ _ _ r in
     let few : l.gap.made.steps < 18446744073709551615 = omega (arith, g.few, r.within, r.after, r.words-there) in
     record {
@@ -87,20 +86,18 @@ step_back-made-requires c =
       working = (g.working, g.kept);
     }
 
-pub loop-law-smaller : goal.loop-law-smaller
-loop-law-smaller c = let r = back_read (goal.at.loop-law-smaller c).In-Back in omega (arith, r.within, r.after, r.words-there)
+pub loop-record-smaller : goal.loop-record-smaller
+loop-record-smaller c = let r = back_read (goal.at.loop-record-smaller c).In-Back in omega (arith, r.within, r.after, r.words-there)
 
-pub loop-law-preserved : goal.loop-law-preserved
-loop-law-preserved c =
-    let i = c.loop-law.invariant in
-    turn-done _ _ _ _ _ _ _ _ _ _ _ i _ _ (back-turn _ _ _ _ _ _ _ _ _ _ _ i _ _ _ _ (back_read (goal.at.loop-law-preserved c).In-Back)) _ _ _ _ _ _ (backward_of _ _ _ _ _ _ _ _ _ _ _ _ _ _ _ c.step_back-made.ensures) c.step_back-made.auto.old c.in-Done-made.is
+pub loop-record-preserved : goal.loop-record-preserved
+loop-record-preserved c =
+    let i = c.loop-record.invariant in
+    let u = back-turn _ _ _ _ _ _ _ _ _ _ _ i _ _ _ _ (back_read (goal.at.loop-record-preserved c).In-Back) in
+    turn-done _ _ _ _ _ _ _ _ _ _ _ i _ _ u _ _ _ _ _ (backward_of _ _ _ _ _ _ _ _ _ _ _ _ _ _ _ c.step_back.ensures) _ c.step_back.auto.old c.in_ok-gap-in-Back.was
 
-pub returns-in-Fails-made : goal.returns-in-Fails-made
-returns-in-Fails-made c =
-    let i = c.loop-law.invariant in
-    turn-fails _ _ _ _ _ _ _ _ _ _ _ i _ _ (back-turn _ _ _ _ _ _ _ _ _ _ _ i _ _ _ _ (back_read (goal.at.returns-in-Fails-made c).In-Back)) _ _ _ _ _ _ (backward_of _ _ _ _ _ _ _ _ _ _ _ _ _ _ _ c.step_back-made.ensures) c.in-Fails-made.is
-
-pub returns-in-Long-made : goal.returns-in-Long-made
-returns-in-Long-made c =
-    let i = c.loop-law.invariant in
-    turn-long _ _ _ _ _ _ _ _ _ _ _ i _ _ (back-turn _ _ _ _ _ _ _ _ _ _ _ i _ _ _ _ (back_read (goal.at.returns-in-Long-made c).In-Back)) _ _ _ _ _ _ (backward_of _ _ _ _ _ _ _ _ _ _ _ _ _ _ _ c.step_back-made.ensures) c.in-Long-made.is
+pub returns-in_err-gap-in-Back : goal.returns-in_err-gap-in-Back
+returns-in_err-gap-in-Back c =
+    let i = c.loop-record.invariant in
+    let u = back-turn _ _ _ _ _ _ _ _ _ _ _ i _ _ _ _ (back_read (goal.at.returns-in_err-gap-in-Back c).In-Back) in
+    let p = err_from_is_err_and c.from_residual-in_err-gap-in-Back.result c.from_residual-in_err-gap-in-Back.ensures.1 in
+    rw (p.1, p.2) (turn-stopped _ _ _ _ _ _ _ _ _ _ _ i _ _ u _ _ _ _ _ (backward_of _ _ _ _ _ _ _ _ _ _ _ _ _ _ _ c.step_back.ensures) _ c.in_err-gap-in-Back.was)

@@ -7,9 +7,9 @@ use Rattle.steps.specs.Working.{plan_in}
 use Rattle.checking.proofs.Turning.{Going}
 use Rattle.checking.proofs.replay_on.Given as goal
 
-abbrev pub invariant-loop-law : goal.invariant-loop-law
-invariant-loop-law l =
+abbrev pub invariant-loop-record : goal.invariant-loop-record
+invariant-loop-record l =
     Going l.tables l.limit l.rewriting (plan_in l.initial.left l.initial.right l.initial.gap) (before l.initial.gap.made (plan_in l.initial.left l.initial.right l.initial.gap) l.initial.old) l.at l.left l.starts l.right l.old l.gap
 
-abbrev pub decreases-loop-law : goal.decreases-loop-law
-decreases-loop-law l = length l.rewriting - l.at
+abbrev pub decreases-loop-record : goal.decreases-loop-record
+decreases-loop-record l = length l.rewriting - l.at

@@ -5,49 +5,41 @@ use lib.ListN.{length, get_or}
 use Rattle.areas.specs.Area.{most_words, overwrite}
 use Rattle.forms.specs.Gathering.{form_by_sorting}
 use Rattle.chains.specs.Chain.{walk}
-use Rattle.fixing.proofs.Steps.{parts_low}
-use Rattle.fixing.proofs.Ended.{some_part, end_below, end-size, end_some, end-walked, put_whole, put-nothing}
+use Rattle.fixing.proofs.Ended.{last_part, end-size, end_some, end-walked, put_whole, put-nothing}
 use Rattle.fixing.proofs.Spans.{part_length, put_back}
 use native.Mathlib.Omega.{arith}
 use Rattle.fixing.proofs.put_form.Goals as goal
 
 pub overflow_sub-start : goal.overflow_sub-start
-overflow_sub-start c = some_part _ _ _ _ _ _ _ _ c.gather-stack.ensures c.requires.some_words
+overflow_sub-start c = let l = last_part c.requires c.gather-stack.ensures in omega arith
 
-pub offset_bounds-starts-parts : goal.offset_bounds-starts-parts
-offset_bounds-starts-parts c = omega (arith, parts_low c.gather-stack.ensures)
+pub offset_bounds-starts-stack : goal.offset_bounds-starts-stack
+offset_bounds-starts-stack c = let l = last_part c.requires c.gather-stack.ensures in omega arith
 
-pub bounds-starts-parts : goal.bounds-starts-parts
-bounds-starts-parts c =
-    let one = some_part _ _ _ _ _ _ _ _ c.gather-stack.ensures c.requires.some_words in
-    omega (arith, parts_low c.gather-stack.ensures, one)
+pub bounds-starts-stack : goal.bounds-starts-stack
+bounds-starts-stack c = let l = last_part c.requires c.gather-stack.ensures in omega arith
 
 pub slice_bounds-close-count : goal.slice_bounds-close-count
-slice_bounds-close-count c =
-    let one = some_part _ _ _ _ _ _ _ _ c.gather-stack.ensures c.requires.some_words in
-    omega (arith, end_below c.requires.few c.gather-stack.ensures one)
+slice_bounds-close-count c = let l = last_part c.requires c.gather-stack.ensures in omega arith
 
 pub slice_bounds-entries-start : goal.slice_bounds-entries-start
-slice_bounds-entries-start c =
-    let one = some_part _ _ _ _ _ _ _ _ c.gather-stack.ensures c.requires.some_words in
-    omega (arith, end_below c.requires.few c.gather-stack.ensures one)
+slice_bounds-entries-start c = let l = last_part c.requires c.gather-stack.ensures in omega arith
 
 pub slice_bounds-close-count-2 : goal.slice_bounds-close-count-2
-slice_bounds-close-count-2 c =
-    let one = some_part _ _ _ _ _ _ _ _ c.gather-stack.ensures c.requires.some_words in
-    omega (arith, end_below c.requires.few c.gather-stack.ensures one)
+slice_bounds-close-count-2 c = let l = last_part c.requires c.gather-stack.ensures in omega arith
 
 pub slice_bounds-buffer-start : goal.slice_bounds-buffer-start
-slice_bounds-buffer-start c =
-    let one = some_part _ _ _ _ _ _ _ _ c.gather-stack.ensures c.requires.some_words in
-    omega (arith, end_below c.requires.few c.gather-stack.ensures one)
+slice_bounds-buffer-start c = let l = last_part c.requires c.gather-stack.ensures in omega arith
+
+pub bounds-entries-start : goal.bounds-entries-start
+bounds-entries-start c = let l = last_part c.requires c.gather-stack.ensures in omega arith
 
 pub close-total-requires : goal.close-total-requires
 close-total-requires c =
     let k = c.gather-stack in
     let g = k.ensures in
     let first = get_or k.new.starts (k.result.parts - 1) 0 in
-    let below = end_below c.requires.few g (some_part _ _ _ _ _ _ _ _ g c.requires.some_words) in
+    let below = (last_part c.requires g).below in
     let few : k.result.entries ≤ most_words = omega arith in
     let l = part_length k.new.entries first k.result.entries (omega arith) below in
     let m = part_length k.new.buffer first k.result.entries (omega arith) below in
@@ -57,22 +49,17 @@ pub overflow_sub-size : goal.overflow_sub-size
 overflow_sub-size c =
     let g = c.gather-stack.ensures in
     let k = c.close-total in
-    end_some c.requires.few g (some_part _ _ _ _ _ _ _ _ g c.requires.some_words) k.new.links k.new.part k.result k.ensures
-
-pub bounds-entries-start : goal.bounds-entries-start
-bounds-entries-start c =
-    let one = some_part _ _ _ _ _ _ _ _ c.gather-stack.ensures c.requires.some_words in
-    omega (arith, end_below c.requires.few c.gather-stack.ensures one)
+    end_some c.requires.few g (last_part c.requires g).some k.new.links k.new.part k.result k.ensures
 
 pub returns-then-size-area : goal.returns-then-size-area
 returns-then-size-area c =
     let h = c.gather-stack in
     let g = h.ensures in
     let k = c.close-total in
-    let one = some_part _ _ _ _ _ _ _ _ g c.requires.some_words in
+    let one = (last_part c.requires g).some in
     let size_is = end-size c.requires.few g one k.new.links k.new.part k.result k.ensures in
     let first = get_or h.new.starts (h.result.parts - 1) 0 in
-    let below = end_below c.requires.few g one in
+    let below = (last_part c.requires g).below in
     let room : h.result.entries ≤ length h.new.entries = omega arith in
     let back = put_back h.new.entries k.new.part first h.result.entries below room (k.auto.part ∙ part_length h.new.entries first h.result.entries room below) in
     let walked = ap (walk c.args.plan.now k.new.links (k.result - 1)) back.first ∙ end-walked c.requires.few g one k.new.links k.new.part k.result k.ensures in (
@@ -85,5 +72,5 @@ pub returns-else-size-area : goal.returns-else-size-area
 returns-else-size-area c =
     let g = c.gather-stack.ensures in
     let k = c.close-total in
-    let size_is = end-size c.requires.few g (some_part _ _ _ _ _ _ _ _ g c.requires.some_words) k.new.links k.new.part k.result k.ensures in
+    let size_is = end-size c.requires.few g (last_part c.requires g).some k.new.links k.new.part k.result k.ensures in
     (sym size_is, put-nothing c.args.area.now (form_by_sorting c.args.plan.now) (k.result - 1) c.if-size-area.false)

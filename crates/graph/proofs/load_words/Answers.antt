@@ -1,16 +1,14 @@
 -- Words are put into an array of entries. The invariant: the array with the first i words copied.
 use native.Mathlib.Omega.{arith}
-use mathlib.Core.Path.{refl, ◌∙◌}
+use mathlib.Core.Path.{◌∙◌}
 use lib.ListN.{length-set}
-use lib.Seq.{paste-zero}
 use Rattle.areas.proofs.Area.{paste_more, paste_all}
 use Rattle.graph.proofs.load_words.Goals as goal
 
-pub loop-i-init : goal.loop-i-init
-loop-i-init c = (omega arith, refl, paste-zero c.args.dst.now c.args.at c.args.src.now)
-
 pub loop-i-preserved : goal.loop-i-preserved
-loop-i-preserved c = (omega arith, simp length-set c.loop-i.invariant.1, rw c.loop-i.invariant.2 (paste_more c.args.dst.now c.args.src.now c.args.at c.loop-i.i (omega arith) (omega arith)))
+loop-i-preserved c =
+    let e = c.from.ensures in
+    (omega arith, simp length-set c.loop-i.invariant.1, rw (e, c.loop-i.invariant.2) (paste_more c.args.dst.now c.args.src.now c.args.at c.loop-i.i (omega arith) (omega arith)))
 
 pub returns : goal.returns
 returns c = c.loop-i.invariant.2 ∙ paste_all c.args.dst.now c.args.src.now c.args.at c.loop-i.i (omega arith) (omega arith)

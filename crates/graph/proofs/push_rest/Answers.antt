@@ -1,38 +1,35 @@
--- Entries are put on a stack. The invariant: those left, put on the stack as it is, make what all of them make of the first stack.
-use Prim.Native.Nat.{ℕ, ◌+◌, ◌≤◌, ◌<◌}
+-- Entries are put on a stack: copied behind its last one, they are on it one after another.
+use Prim.Native.Nat.{ℕ, ◌+◌, ◌-◌, ◌≤◌}
 use native.Mathlib.Omega.{arith}
-use native.Mathlib.Numerals.{add-one}
-use mathlib.Core.Path.{◌≡◌, refl, sym, ◌∙◌}
-use mathlib.Core.List.{List}
-use lib.ListN.{length, get_or, set, drop, length-set, drop_of_length-le}
-use lib.Seq.{drop-cons}
+use mathlib.Core.Path.{◌≡◌, refl, ◌∙◌}
+use mathlib.Core.List.{List, [], ◌∷◌}
+use lib.ListN.{length, set, take, drop, length-set, length-drop}
+use lib.Seq.{take_all}
+use Rattle.areas.specs.Area.{overwrite}
+use Rattle.areas.proofs.Area.{overwrite-one, overwrite_none, overwrite-two}
 use Rattle.plans.specs.Stack.{stacked}
 use Rattle.plans.proofs.Stack.{stacked-push}
 use Rattle.graph.specs.Graph.{onto}
+use Rattle.graph.proofs.Parts.{put_mid-overwrite}
 use Rattle.graph.proofs.push_rest.Goals as goal
 
--- one more entry
-onto-more : (todo stack : List ℕ) (i h : ℕ) → i < length todo → h < length stack
-    → onto (drop (i + 1) todo) (stacked (set stack h (get_or todo i 0)) (h + 1)) ≡ onto (drop i todo) (stacked stack h)
+-- entries written behind a stack are put on it
+stacked-overwrite : (vs a : List ℕ) (h : ℕ) → h + length vs ≤ length a → stacked (overwrite a h vs) (h + length vs) ≡ onto vs (stacked a h)
 unfolding onto
-onto-more todo stack i h l m = rw (add-one i, stacked-push stack h (get_or todo i 0) m, drop-cons todo i 0 l)
-
--- none are left
-onto-all : (todo s : List ℕ) (i : ℕ) → length todo ≤ i → onto (drop i todo) s ≡ s
-unfolding onto
-onto-all todo s i h = rw (drop_of_length-le todo h)
-
-pub loop-i-init : goal.loop-i-init
-loop-i-init c = (omega arith, omega arith, omega arith, refl, refl)
-
-pub loop-i-preserved : goal.loop-i-preserved
-loop-i-preserved c = (
-  omega arith,
-  omega arith,
-  omega arith,
-  simp length-set c.loop-i.invariant.3,
-  onto-more c.args.todo.now c.loop-i.stack c.loop-i.i c.loop-i.h (omega arith) (omega arith) ∙ c.loop-i.invariant.4,
-)
+stacked-overwrite [] a h l =
+    let e : h + 0 ≡ h = omega arith in
+    rw (e, overwrite_none a h)
+stacked-overwrite (v ∷ vs) a h l =
+    let e : h + length (v ∷ vs) ≡ h + 1 + length vs = omega arith in
+    let o : overwrite (set a h v) (h + 1) vs ≡ overwrite a h (v ∷ vs) = rw (overwrite-one a h v (omega arith)) (overwrite-two a h (v ∷ []) vs (omega arith)) in
+    rw (e, ← o, ← stacked-push a h v (omega arith)) (stacked-overwrite vs (set a h v) (h + 1) (omega (arith, length-set {A = ℕ})))
 
 pub returns : goal.returns
-returns c = (omega arith, sym (onto-all c.args.todo.now (stacked c.loop-i.stack c.loop-i.h) c.loop-i.i c.loop-i-test.false) ∙ c.loop-i.invariant.4)
+returns c =
+    let a = c.args in
+    let left = drop a.rest a.todo.now in
+    let long : length left ≡ length a.todo.now - a.rest = length-drop a.rest a.todo.now in
+    let all : take (length a.todo.now - a.rest) left ≡ left = take_all (length a.todo.now - a.rest) left (omega arith) in
+    let new : c.copy_from_slice.new.self ≡ left = c.copy_from_slice.ensures.after ∙ all in
+    let here : a.height + length left - a.height ≡ length left = omega arith in
+    rw (all, new, here) (omega arith, rw (put_mid-overwrite a.height (length left) a.stack.now left refl) (stacked-overwrite left a.stack.now a.height (omega arith)))

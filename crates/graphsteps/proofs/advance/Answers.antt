@@ -49,8 +49,8 @@ pub slice_bounds-redex_at-end-6 : goal.slice_bounds-redex_at-end-6
 slice_bounds-redex_at-end-6 c =
     sym (length-take-le c.args.reading.count c.args.second.now (omega (arith, c.requires.fits.0.second_long, c.requires.fits.0.nodes_in)))
 
-pub redex_at-redex-requires : goal.redex_at-redex-requires
-redex_at-redex-requires c =
+pub redex_at-requires : goal.redex_at-requires
+redex_at-requires c =
     let low = rw c.requires.n_value.0 at c.if-v-n.false in
     (c.requires.n_value.1, out.nodes-there c.args.tables.now c.requires.n_value.1 c.args.limit c.requires.n_value.2 c.args.allowed c.args.room _ _ _ _ _ _ c.args.reading c.requires.fits.0 c.requires.n_value.3 low c.if-v-ge-FIRST_NODE.false c.take_operands-operands.result c.take_operands-operands.ensures, out.root-term c.args.tables.now c.requires.n_value.1 c.args.limit c.requires.n_value.2 c.args.allowed c.args.room _ _ _ _ _ _ c.args.reading c.requires.fits.0 c.requires.n_value.3 low c.if-v-ge-FIRST_NODE.false c.take_operands-operands.result c.take_operands-operands.ensures c.requires.fits.1)
 
@@ -65,21 +65,21 @@ read_sign-requires c =
     let f = c.requires.fits.0 in
     record { own_len_bound = (f.own_most, f.first_long, f.second_long, f.sizes_long, f.stack_long); count_in_bounds = (omega (arith, f.nodes_in, c.if-count-own.false), c.requires.n_value.3, omega (arith, room), old_less.3, omega (arith, old_less, c.redex_size-old.ensures.0)) }
 
-pub returns-then-law-eq0 : goal.returns-then-law-eq0
-returns-then-law-eq0 c =
+pub returns-in_default : goal.returns-in_default
+returns-in_default c =
     let low = rw c.requires.n_value.0 at c.if-v-n.false in
     let e = c.read_sign.ensures in
-    out.on-sign c.args.tables.now c.requires.n_value.1 c.args.limit c.requires.n_value.2 c.args.allowed c.args.room _ _ _ _ _ _ c.args.reading c.requires.fits.0 c.requires.n_value.3 low c.if-v-ge-FIRST_NODE.false c.take_operands-operands.result c.take_operands-operands.ensures _ c.redex_at-redex.result.law c.redex_at-redex.ensures.0 c.if-law-eq0.true (omega (arith, c.requires.fits.0.nodes_in, c.if-count-own.false)) _ c.redex_size-old.ensures.0 e.0 e.1 e.2 e.3 e.4 e.5
+    out.on-sign c.args.tables.now c.requires.n_value.1 c.args.limit c.requires.n_value.2 c.args.allowed c.args.room _ _ _ _ _ _ c.args.reading c.requires.fits.0 c.requires.n_value.3 low c.if-v-ge-FIRST_NODE.false c.take_operands-operands.result c.take_operands-operands.ensures _ c.redex_at.ensures.0 c.in_default.is (omega (arith, c.requires.fits.0.nodes_in, c.if-count-own.false)) _ c.redex_size-old.ensures.0 e.0 e.1 e.2 e.3 e.4 e.5
 
 pub returns-then-allowed-eq0 : goal.returns-then-allowed-eq0
 returns-then-allowed-eq0 c =
     let low = rw c.requires.n_value.0 at c.if-v-n.false in
-    out.on-none_allowed c.args.tables.now c.requires.n_value.1 c.args.limit c.requires.n_value.2 c.args.allowed c.args.room _ _ _ _ _ _ c.args.reading c.requires.fits.0 c.requires.n_value.3 low c.if-v-ge-FIRST_NODE.false c.take_operands-operands.result c.take_operands-operands.ensures _ c.redex_at-redex.result.law c.redex_at-redex.ensures.0 c.if-law-eq0.false c.if-allowed-eq0.true
+    out.on-none_allowed c.args.tables.now c.requires.n_value.1 c.args.limit c.requires.n_value.2 c.args.allowed c.args.room _ _ _ _ _ _ c.args.reading c.requires.fits.0 c.requires.n_value.3 low c.if-v-ge-FIRST_NODE.false c.take_operands-operands.result c.take_operands-operands.ensures _ c.redex_at.ensures.0 c.in-Some.redex c.in-Some.is c.if-allowed-eq0.true
 
 pub returns-then-room-lt3 : goal.returns-then-room-lt3
 returns-then-room-lt3 c =
     let low = rw c.requires.n_value.0 at c.if-v-n.false in
-    out.on-list_full c.args.tables.now c.requires.n_value.1 c.args.limit c.requires.n_value.2 c.args.allowed c.args.room _ _ _ _ _ _ c.args.reading c.requires.fits.0 c.requires.n_value.3 low c.if-v-ge-FIRST_NODE.false c.take_operands-operands.result c.take_operands-operands.ensures _ c.redex_at-redex.result.law c.redex_at-redex.ensures.0 c.if-law-eq0.false (omega (arith, c.if-allowed-eq0.false)) c.if-room-lt3.true
+    out.on-list_full c.args.tables.now c.requires.n_value.1 c.args.limit c.requires.n_value.2 c.args.allowed c.args.room _ _ _ _ _ _ c.args.reading c.requires.fits.0 c.requires.n_value.3 low c.if-v-ge-FIRST_NODE.false c.take_operands-operands.result c.take_operands-operands.ensures _ c.redex_at.ensures.0 c.in-Some.redex c.in-Some.is (omega (arith, c.if-allowed-eq0.false)) c.if-room-lt3.true
 
 pub overflow_sub-kept : goal.overflow_sub-kept
 overflow_sub-kept c =
@@ -96,22 +96,22 @@ overflow_sub-bounds c =
     let h = c.requires.fits.1.holding in
     omega (arith, h.size_is, h.short)
 
-pub put_side-put-requires : goal.put_side-put-requires
-put_side-put-requires c =
+pub put_side-requires : goal.put_side-requires
+put_side-requires c =
     let low = rw c.requires.n_value.0 at c.if-v-n.false in
-    let d = out.law_bounds c.args.tables.now c.requires.n_value.1 c.args.limit c.requires.n_value.2 c.args.allowed c.args.room _ _ _ _ _ _ c.args.reading c.requires.fits.0 c.requires.n_value.3 low c.if-v-ge-FIRST_NODE.false c.take_operands-operands.result c.take_operands-operands.ensures _ c.redex_at-redex.result.law c.redex_at-redex.ensures.0 c.requires.fits.1 c.if-law-eq0.false in
-    record { first_choice_le_law = (d.0, d.1, c.redex_at-redex.ensures.1, c.redex_at-redex.ensures.2, omega (arith, c.requires.n_value.3, c.requires.fits.0.todo_long)); put_ready = out.side_ready c.args.tables.now c.requires.n_value.1 c.args.limit c.requires.n_value.2 c.args.allowed c.args.room _ _ _ _ _ _ c.args.reading c.requires.fits.0 c.requires.n_value.3 low c.if-v-ge-FIRST_NODE.false c.take_operands-operands.result c.take_operands-operands.ensures _ c.redex_at-redex.result.law c.redex_at-redex.ensures.0 c.if-law-eq0.false _ c.redex_size-old.ensures.0 c.requires.fits.1 }
+    let d = out.law_bounds c.args.tables.now c.requires.n_value.1 c.args.limit c.requires.n_value.2 c.args.allowed c.args.room _ _ _ _ _ _ c.args.reading c.requires.fits.0 c.requires.n_value.3 low c.if-v-ge-FIRST_NODE.false c.take_operands-operands.result c.take_operands-operands.ensures _ c.redex_at.ensures.0 c.in-Some.redex c.in-Some.is c.requires.fits.1 in
+    record { first_choice_le_law = (d.0, d.1, omega (arith, c.requires.n_value.3, c.requires.fits.0.todo_long)); put_ready = out.side_ready c.args.tables.now c.requires.n_value.1 c.args.limit c.requires.n_value.2 c.args.allowed c.args.room _ _ _ _ _ _ c.args.reading c.requires.fits.0 c.requires.n_value.3 low c.if-v-ge-FIRST_NODE.false c.take_operands-operands.result c.take_operands-operands.ensures _ c.redex_at.ensures.0 c.in-Some.redex c.in-Some.is _ c.redex_size-old.ensures.0 c.requires.fits.1 }
 
-pub returns-in_default : goal.returns-in_default
-returns-in_default c =
+pub returns-in_default-put_side : goal.returns-in_default-put_side
+returns-in_default-put_side c =
     let low = rw c.requires.n_value.0 at c.if-v-n.false in
-    out.on-too_long c.args.tables.now c.requires.n_value.1 c.args.limit c.requires.n_value.2 c.args.allowed c.args.room _ _ _ _ _ _ c.args.reading c.requires.fits.0 c.requires.n_value.3 low c.if-v-ge-FIRST_NODE.false c.take_operands-operands.result c.take_operands-operands.ensures _ c.redex_at-redex.result.law c.redex_at-redex.ensures.0 c.if-law-eq0.false _ c.redex_size-old.ensures.0 (omega arith) c.if-room-lt3.false (out.was_long c.put_side-put.ensures c.in_default.is)
+    out.on-too_long c.args.tables.now c.requires.n_value.1 c.args.limit c.requires.n_value.2 c.args.allowed c.args.room _ _ _ _ _ _ c.args.reading c.requires.fits.0 c.requires.n_value.3 low c.if-v-ge-FIRST_NODE.false c.take_operands-operands.result c.take_operands-operands.ensures _ c.redex_at.ensures.0 c.in-Some.redex c.in-Some.is _ c.redex_size-old.ensures.0 (omega arith) c.if-room-lt3.false (out.was_long c.put_side.ensures c.in_default-put_side.is)
 
 pub overflow_add-size : goal.overflow_add-size
 overflow_add-size c =
     let low = rw c.requires.n_value.0 at c.if-v-n.false in
     let old_less = out.old_less c.args.tables.now c.requires.n_value.1 c.args.limit c.requires.n_value.2 c.args.allowed c.args.room _ _ _ _ _ _ c.args.reading c.requires.fits.0 c.requires.n_value.3 low c.if-v-ge-FIRST_NODE.false c.take_operands-operands.result c.take_operands-operands.ensures c.requires.fits.1 in
-    let d = out.was_put c.put_side-put.ensures _ _ c.in-At.is in
+    let d = out.was_put c.put_side.ensures c.in-Some-put_side.placed c.in-Some-put_side.is in
     omega (arith, old_less, c.redex_size-old.ensures.0, d.3, c.requires.n_value.2)
 
 pub overflow_add-at : goal.overflow_add-at
@@ -131,4 +131,4 @@ after_step-next-requires c = tt
 pub returns : goal.returns
 returns c =
     let low = rw c.requires.n_value.0 at c.if-v-n.false in
-    out.on_step c.args.tables.now c.requires.n_value.1 c.args.limit c.requires.n_value.2 c.args.allowed c.args.room _ _ _ _ _ _ c.args.reading c.requires.fits.0 c.requires.n_value.3 low c.if-v-ge-FIRST_NODE.false c.take_operands-operands.result c.take_operands-operands.ensures _ c.redex_at-redex.result.law c.redex_at-redex.ensures.0 c.if-law-eq0.false _ c.redex_size-old.ensures.0 (omega arith) c.if-room-lt3.false _ _ (out.was_put c.put_side-put.ensures _ _ c.in-At.is) c.after_step-next.ensures
+    out.on_step c.args.tables.now c.requires.n_value.1 c.args.limit c.requires.n_value.2 c.args.allowed c.args.room _ _ _ _ _ _ c.args.reading c.requires.fits.0 c.requires.n_value.3 low c.if-v-ge-FIRST_NODE.false c.take_operands-operands.result c.take_operands-operands.ensures _ c.redex_at.ensures.0 c.in-Some.redex c.in-Some.is _ c.redex_size-old.ensures.0 (omega arith) c.if-room-lt3.false _ _ (out.was_put c.put_side.ensures c.in-Some-put_side.placed c.in-Some-put_side.is) c.after_step-next.ensures

@@ -1,32 +1,22 @@
--- `recording::put_record` meets its contract: three stores one after another.
+-- `recording::put_record` meets its contract: the law and the two bytes of the place are copied into the list.
 use native.Mathlib.Omega.{arith}
-use Prim.Native.Nat.{ℕ, ◌+◌, ◌≤◌, ◌%◌, ◌/◌}
+use Prim.Native.Nat.{◌+◌, ◌-◌, ◌%◌, ◌/◌}
 use mathlib.Core.Path.{◌≡◌}
-use mathlib.Core.List.{List, [], ◌∷◌}
-use lib.ListN.{length, set, length-set}
-use Rattle.areas.specs.Area.{overwrite}
-use Rattle.areas.proofs.Area.{overwrite-one, overwrite-two, overwrite-length}
+use mathlib.Core.List.{[], ◌∷◌}
+use Rattle.graph.proofs.Parts.{put_mid-overwrite}
 use Rattle.rewritings.specs.Moves.{record_of}
 use Rattle.recording.proofs.put_record.Goals as goal
 
-three : (d : List ℕ) (k x y z : ℕ) → k + 3 ≤ length d → set (set (set d k x) (k + 1) y) (k + 2) z ≡ overwrite d k (x ∷ (y ∷ (z ∷ [])))
-three d k x y z h =
-    let a : length (overwrite d k (x ∷ [])) ≡ length d = overwrite-length d k (x ∷ []) (omega arith) in
-    let b : length (overwrite d k (x ∷ (y ∷ []))) ≡ length d = overwrite-length d k (x ∷ (y ∷ [])) (omega arith) in
-    rw (
-      overwrite-one d k x (omega arith),
-      overwrite-one (overwrite d k (x ∷ [])) (k + 1) y (omega arith),
-      overwrite-two d k (x ∷ []) (y ∷ []) (omega arith),
-      overwrite-one (overwrite d k (x ∷ (y ∷ []))) (k + 2) z (omega arith),
-      overwrite-two d k (x ∷ (y ∷ [])) (z ∷ []) (omega arith),
-    )
-
-pub bounds-list-used-2 : goal.bounds-list-used-2
-bounds-list-used-2 c = simp length-set (omega arith)
-
-pub bounds-list-used-3 : goal.bounds-list-used-3
-bounds-list-used-3 c = simp length-set (omega arith)
-
 pub returns : goal.returns
 unfolding record_of
-returns c = three c.args.list.now c.args.used c.args.law (c.args.place % 256) (c.args.place / 256) (omega arith)
+returns c =
+    let a = c.args in
+    let three : a.used + 3 - a.used ≡ 3 = omega arith in
+    -- the place is below 65,536, so that its second byte is its last
+    let high : a.place / 256 % 256 ≡ a.place / 256 = omega (arith, c.requires.1) in
+    rw (
+      c.copy_from_slice.ensures.after,
+      c.to_le_bytes.ensures,
+      high,
+      put_mid-overwrite a.used (a.used + 3 - a.used) a.list.now (a.law ∷ (a.place % 256 ∷ (a.place / 256 ∷ []))) three,
+    )

@@ -9,115 +9,115 @@ use Rattle.redexes.proofs.put_side.Goals as goal
 
 pub put_entries-requires : goal.put_entries-requires
 unfolding side_entries entries_for entry_for forth law_at laws binary_word
-put_entries-requires c = (omega arith, c.requires.first_choice_le_law.4, rw c.in-5.is at c.requires.put_ready)
+put_entries-requires c = (omega arith, c.requires.first_choice_le_law.2, rw c.in-5.is at c.requires.put_ready)
 
 pub put_entries-requires-in-6 : goal.put_entries-requires-in-6
 unfolding side_entries entries_for entry_for forth law_at laws binary_word
-put_entries-requires-in-6 c = (omega arith, c.requires.first_choice_le_law.4, rw c.in-6.is at c.requires.put_ready)
+put_entries-requires-in-6 c = (omega arith, c.requires.first_choice_le_law.2, rw c.in-6.is at c.requires.put_ready)
 
 pub put_entries-requires-in-7 : goal.put_entries-requires-in-7
 unfolding side_entries entries_for entry_for forth law_at laws binary_word
-put_entries-requires-in-7 c = (omega arith, c.requires.first_choice_le_law.4, rw c.in-7.is at c.requires.put_ready)
+put_entries-requires-in-7 c = (omega arith, c.requires.first_choice_le_law.2, rw c.in-7.is at c.requires.put_ready)
 
 pub put_entries-requires-in-8 : goal.put_entries-requires-in-8
 unfolding side_entries entries_for entry_for forth law_at laws binary_word
-put_entries-requires-in-8 c = (omega arith, c.requires.first_choice_le_law.4, rw c.in-8.is at c.requires.put_ready)
+put_entries-requires-in-8 c = (omega arith, c.requires.first_choice_le_law.2, rw c.in-8.is at c.requires.put_ready)
 
 pub put_entries-requires-in-9 : goal.put_entries-requires-in-9
 unfolding side_entries entries_for entry_for forth law_at laws binary_word
-put_entries-requires-in-9 c = (omega arith, c.requires.first_choice_le_law.4, rw c.in-9.is at c.requires.put_ready)
+put_entries-requires-in-9 c = (omega arith, c.requires.first_choice_le_law.2, rw c.in-9.is at c.requires.put_ready)
 
 pub put_entries-requires-in-10 : goal.put_entries-requires-in-10
 unfolding side_entries entries_for entry_for forth law_at laws binary_word
-put_entries-requires-in-10 c = (omega arith, c.requires.first_choice_le_law.4, rw c.communication_of-c.ensures.whole (rw c.in-10.is at c.requires.put_ready))
+put_entries-requires-in-10 c = (omega arith, c.requires.first_choice_le_law.2, rw c.communication_of-c.ensures.whole (rw c.in-10.is at c.requires.put_ready))
 
 pub put_entries-requires-in-11 : goal.put_entries-requires-in-11
 unfolding side_entries entries_for entry_for forth law_at laws binary_word
-put_entries-requires-in-11 c = (omega arith, c.requires.first_choice_le_law.4, rw c.in-11.is at c.requires.put_ready)
+put_entries-requires-in-11 c = (omega arith, c.requires.first_choice_le_law.2, rw c.in-11.is at c.requires.put_ready)
 
 pub put_entries-requires-in-12 : goal.put_entries-requires-in-12
 unfolding side_entries entries_for entry_for forth law_at laws binary_word
-put_entries-requires-in-12 c = (omega arith, c.requires.first_choice_le_law.4, rw c.in-12.is at c.requires.put_ready)
+put_entries-requires-in-12 c = (omega arith, c.requires.first_choice_le_law.2, rw c.in-12.is at c.requires.put_ready)
 
 pub put_entries-requires-in-13 : goal.put_entries-requires-in-13
 unfolding side_entries entries_for entry_for forth law_at laws binary_word
-put_entries-requires-in-13 c = (omega arith, c.requires.first_choice_le_law.4, rw c.in-13.is at c.requires.put_ready)
+put_entries-requires-in-13 c = (omega arith, c.requires.first_choice_le_law.2, rw c.in-13.is at c.requires.put_ready)
 
 pub put_entries-requires-in-14 : goal.put_entries-requires-in-14
 unfolding side_entries entries_for entry_for forth law_at laws binary_word
-put_entries-requires-in-14 c = (omega arith, c.requires.first_choice_le_law.4, rw c.in-14.is at c.requires.put_ready)
+put_entries-requires-in-14 c = (omega arith, c.requires.first_choice_le_law.2, rw c.in-14.is at c.requires.put_ready)
 
 pub put_entries-requires-in-15 : goal.put_entries-requires-in-15
 unfolding side_entries entries_for entry_for forth law_at laws binary_word
-put_entries-requires-in-15 c = (omega arith, c.requires.first_choice_le_law.4, rw c.in-15.is at c.requires.put_ready)
+put_entries-requires-in-15 c = (omega arith, c.requires.first_choice_le_law.2, rw c.in-15.is at c.requires.put_ready)
 
 pub put_entries-requires-in-16 : goal.put_entries-requires-in-16
 unfolding side_entries entries_for entry_for forth law_at laws binary_word
-put_entries-requires-in-16 c = (omega arith, c.requires.first_choice_le_law.4, rw c.in-16.is at c.requires.put_ready)
+put_entries-requires-in-16 c = (omega arith, c.requires.first_choice_le_law.2, rw c.in-16.is at c.requires.put_ready)
 
 pub put_entries-requires-in-17 : goal.put_entries-requires-in-17
 unfolding side_entries entries_for entry_for forth law_at laws binary_word
-put_entries-requires-in-17 c = (omega arith, c.requires.first_choice_le_law.4, rw c.in-17.is at c.requires.put_ready)
+put_entries-requires-in-17 c = (omega arith, c.requires.first_choice_le_law.2, rw c.in-17.is at c.requires.put_ready)
 
 pub put_entries-requires-in-18 : goal.put_entries-requires-in-18
 unfolding side_entries entries_for entry_for forth law_at laws binary_word
-put_entries-requires-in-18 c = (omega arith, c.requires.first_choice_le_law.4, rw c.in-18.is at c.requires.put_ready)
+put_entries-requires-in-18 c = (omega arith, c.requires.first_choice_le_law.2, rw c.in-18.is at c.requires.put_ready)
 
 pub put_entries-requires-in-19 : goal.put_entries-requires-in-19
 unfolding side_entries entries_for entry_for forth law_at laws binary_word
-put_entries-requires-in-19 c = (omega arith, c.requires.first_choice_le_law.4, rw c.in-19.is at c.requires.put_ready)
+put_entries-requires-in-19 c = (omega arith, c.requires.first_choice_le_law.2, rw c.in-19.is at c.requires.put_ready)
 
 pub put_entries-requires-in-20 : goal.put_entries-requires-in-20
 unfolding side_entries entries_for entry_for forth law_at laws binary_word
-put_entries-requires-in-20 c = (omega arith, c.requires.first_choice_le_law.4, rw c.in-20.is at c.requires.put_ready)
+put_entries-requires-in-20 c = (omega arith, c.requires.first_choice_le_law.2, rw c.in-20.is at c.requires.put_ready)
 
 pub put_entries-requires-in-21 : goal.put_entries-requires-in-21
 unfolding side_entries entries_for entry_for forth law_at laws binary_word
-put_entries-requires-in-21 c = (omega arith, c.requires.first_choice_le_law.4, rw c.in-21.is at c.requires.put_ready)
+put_entries-requires-in-21 c = (omega arith, c.requires.first_choice_le_law.2, rw c.in-21.is at c.requires.put_ready)
 
 pub put_entries-requires-in-22 : goal.put_entries-requires-in-22
 unfolding side_entries entries_for entry_for forth law_at laws binary_word
-put_entries-requires-in-22 c = (omega arith, c.requires.first_choice_le_law.4, rw c.in-22.is at c.requires.put_ready)
+put_entries-requires-in-22 c = (omega arith, c.requires.first_choice_le_law.2, rw c.in-22.is at c.requires.put_ready)
 
 pub put_entries-requires-in-23 : goal.put_entries-requires-in-23
 unfolding side_entries entries_for entry_for forth law_at laws binary_word
-put_entries-requires-in-23 c = (omega arith, c.requires.first_choice_le_law.4, rw c.in-23.is at c.requires.put_ready)
+put_entries-requires-in-23 c = (omega arith, c.requires.first_choice_le_law.2, rw c.in-23.is at c.requires.put_ready)
 
 pub put_entries-requires-in-24 : goal.put_entries-requires-in-24
 unfolding side_entries entries_for entry_for forth law_at laws binary_word
-put_entries-requires-in-24 c = (omega arith, c.requires.first_choice_le_law.4, rw c.in-24.is at c.requires.put_ready)
+put_entries-requires-in-24 c = (omega arith, c.requires.first_choice_le_law.2, rw c.in-24.is at c.requires.put_ready)
 
 pub put_entries-requires-in-25 : goal.put_entries-requires-in-25
 unfolding side_entries entries_for entry_for forth law_at laws binary_word
-put_entries-requires-in-25 c = (omega arith, c.requires.first_choice_le_law.4, rw c.in-25.is at c.requires.put_ready)
+put_entries-requires-in-25 c = (omega arith, c.requires.first_choice_le_law.2, rw c.in-25.is at c.requires.put_ready)
 
 pub put_entries-requires-in-26 : goal.put_entries-requires-in-26
 unfolding side_entries entries_for entry_for forth law_at laws binary_word
-put_entries-requires-in-26 c = (omega arith, c.requires.first_choice_le_law.4, rw c.in-26.is at c.requires.put_ready)
+put_entries-requires-in-26 c = (omega arith, c.requires.first_choice_le_law.2, rw c.in-26.is at c.requires.put_ready)
 
 pub put_entries-requires-in-27 : goal.put_entries-requires-in-27
 unfolding side_entries entries_for entry_for forth law_at laws binary_word
-put_entries-requires-in-27 c = (omega arith, c.requires.first_choice_le_law.4, rw c.in-27.is at c.requires.put_ready)
+put_entries-requires-in-27 c = (omega arith, c.requires.first_choice_le_law.2, rw c.in-27.is at c.requires.put_ready)
 
 pub put_entries-requires-in-28 : goal.put_entries-requires-in-28
 unfolding side_entries entries_for entry_for forth law_at laws binary_word
-put_entries-requires-in-28 c = (omega arith, c.requires.first_choice_le_law.4, rw c.in-28.is at c.requires.put_ready)
+put_entries-requires-in-28 c = (omega arith, c.requires.first_choice_le_law.2, rw c.in-28.is at c.requires.put_ready)
 
 pub put_entries-requires-in-29 : goal.put_entries-requires-in-29
 unfolding side_entries entries_for entry_for forth law_at laws binary_word
-put_entries-requires-in-29 c = (omega arith, c.requires.first_choice_le_law.4, rw c.in-29.is at c.requires.put_ready)
+put_entries-requires-in-29 c = (omega arith, c.requires.first_choice_le_law.2, rw c.in-29.is at c.requires.put_ready)
 
 pub put_entries-requires-in-30 : goal.put_entries-requires-in-30
 unfolding side_entries entries_for entry_for forth law_at laws binary_word
-put_entries-requires-in-30 c = (omega arith, c.requires.first_choice_le_law.4, rw c.in-30.is at c.requires.put_ready)
+put_entries-requires-in-30 c = (omega arith, c.requires.first_choice_le_law.2, rw c.in-30.is at c.requires.put_ready)
 
 pub put_entries-requires-in-31 : goal.put_entries-requires-in-31
 unfolding side_entries entries_for entry_for forth law_at laws binary_word
-put_entries-requires-in-31 c = (omega arith, c.requires.first_choice_le_law.4, rw c.in-31.is at c.requires.put_ready)
+put_entries-requires-in-31 c = (omega arith, c.requires.first_choice_le_law.2, rw c.in-31.is at c.requires.put_ready)
 
 pub put_entries-requires-in_default : goal.put_entries-requires-in_default
 unfolding side_entries entries_for entry_for forth law_at laws binary_word
-put_entries-requires-in_default c = (omega arith, c.requires.first_choice_le_law.4, rw (last_law _ c.requires.first_choice_le_law.0 c.requires.first_choice_le_law.1 (omega arith)) at c.requires.put_ready)
+put_entries-requires-in_default c = (omega arith, c.requires.first_choice_le_law.2, rw (last_law _ c.requires.first_choice_le_law.0 c.requires.first_choice_le_law.1 (omega arith)) at c.requires.put_ready)
 
 pub returns-in-5 : goal.returns-in-5
 unfolding side_entries entries_for entry_for forth law_at laws binary_word

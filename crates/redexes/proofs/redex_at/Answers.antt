@@ -1,15 +1,15 @@
 -- By the operator's word. Where it is none of the words that the code asks for, there is no operator at the root.
+use Rattle.std.specs.Prelude.{Some}
 use Prim.Native.Nat.{◌+◌, ◌-◌, ◌≤◌}
-use mathlib.Core.Path.{◌≡◌, sym}
+use mathlib.Core.Path.{◌≡◌, sym, ap}
 use native.Mathlib.Omega.{arith}
 use Rattle.tables.specs.Tables.{actions}
 use Rattle.plans.specs.declared.Binary.TheVariants.{Choice, Sequence, Merge, LeftMerge, CommunicationMerge, Unless}
 use Rattle.plans.specs.declared.Unary.TheVariants.{Priority, Encapsulation}
 use Rattle.plans.specs.Word.{binary_word, unary_word}
 use Rattle.graph.proofs.Reading.{holds-inside}
-use Rattle.redexes.proofs.Redexes.{few, operand_small, redex-under, one_chosen, two_chosen}
+use Rattle.redexes.proofs.Redexes.{few, redex-under, one_chosen, two_chosen}
 use Rattle.redexes.proofs.Roots.{first_operand, second_operand, encapsulation-word}
-use Rattle.redexes.proofs.redex_at.Goals.{in_default-via-then-word-lt80, in_default-via-else-word-lt80+else-word-lt88}
 use Rattle.redexes.proofs.redex_at.Goals as goal
 
 pub returns-then-word-eq64 : goal.returns-then-word-eq64
@@ -18,7 +18,7 @@ returns-then-word-eq64 c = two_chosen c.args.tables.now c.requires.0 c.requires.
 
 pub returns-then-word-eq66 : goal.returns-then-word-eq66
 unfolding redex-under binary_word
-returns-then-word-eq66 c = two_chosen c.args.tables.now c.requires.0 c.requires.2 c.on_plans.result Merge c.if-word-eq66.true c.on_plans.ensures
+returns-then-word-eq66 c = two_chosen c.args.tables.now c.requires.0 c.requires.2 (Some c.on_plans.result) Merge c.if-word-eq66.true (ap Some c.on_plans.ensures)
 
 pub operand_at-p-requires : goal.operand_at-p-requires
 operand_at-p-requires c =
@@ -34,18 +34,6 @@ pub operand_at-requires-in-69 : goal.operand_at-requires-in-69
 operand_at-requires-in-69 c =
     let few_actions : actions c.args.tables.now ≤ 31 = few c.args.tables.now c.requires.0 in
     (c.requires.1, holds-inside (second_operand c.requires.2 (omega (arith, c.in-69.is))).1 few_actions)
-
-pub unless_redex-requires : goal.unless_redex-requires
-unless_redex-requires c =
-    let few_actions : actions c.args.tables.now ≤ 31 = few c.args.tables.now c.requires.0 in (
-      rw c.operand_at-p.ensures (operand_small few_actions (first_operand c.requires.2).1),
-      rw c.operand_at-in-69.ensures (operand_small few_actions (second_operand c.requires.2 (omega (arith, c.in-69.is))).1),
-    )
-
-pub encapsulation_redex-requires : goal.encapsulation_redex-requires
-encapsulation_redex-requires c =
-    let few_actions : actions c.args.tables.now ≤ 31 = few c.args.tables.now c.requires.0 in
-    (omega arith, rw c.operand_at-p.ensures (operand_small few_actions (first_operand c.requires.2).1))
 
 pub returns-in-65 : goal.returns-in-65
 unfolding redex-under binary_word
@@ -77,4 +65,9 @@ returns-in-80-to-87 c =
 pub returns-in_default : goal.returns-in_default
 returns-in_default c =
     let w = encapsulation-word c.requires.2 c.if-word-eq64.false c.if-word-eq66.false (λ e. omega arith) (λ e. omega arith) (λ e. omega arith) (λ e. omega arith) (λ e. omega arith) in
-    absurd (elim c.in_default.branch [ in_default-via-then-word-lt80 v ↦ omega (arith, w.0) | in_default-via-else-word-lt80+else-word-lt88 v ↦ omega (arith, w.1) ])
+    absurd (omega (arith, w.0))
+
+pub returns-in_default-2 : goal.returns-in_default-2
+returns-in_default-2 c =
+    let w = encapsulation-word c.requires.2 c.if-word-eq64.false c.if-word-eq66.false (λ e. omega arith) (λ e. omega arith) (λ e. omega arith) (λ e. omega arith) (λ e. omega arith) in
+    absurd (omega (arith, w.1))

@@ -1,20 +1,17 @@
--- `back_at` meets its contract: the end where the length or the words are cut, else where the words stand.
-use Prim.Native.Nat.{◌+◌}
+-- `back_at` meets its contract: none where the length or the words are cut, else where the words stand.
+use Rattle.std.proofs.Common.{◌+◌}
+use Rattle.std.proofs.lemmas.List.{take_rest, length-take, length-drop}
 use Rattle.rewritings.proofs.Reading.{back-short, back_cut, back-there}
 use native.Mathlib.Omega.{arith}
 use Rattle.rewritings.proofs.back_at.Goals as goal
 
-pub returns-then-rewriting-at-lt5 : goal.returns-then-rewriting-at-lt5
-returns-then-rewriting-at-lt5 c = back-short c.args.rewriting.now c.args.at _ (omega arith) (omega arith)
+pub returns-in_default : goal.returns-in_default
+returns-in_default c = rw (← take_rest c.args.rewriting.now (c.args.at + 3)) (back-short _ _ _ c.in_default.len_below)
 
-pub overflow_mul-size : goal.overflow_mul-size
-overflow_mul-size c = omega (arith, c.type_inv.rewriting (c.args.at + 3), c.type_inv.rewriting (c.args.at + 4))
-
-pub overflow_add-size : goal.overflow_add-size
-overflow_add-size c = omega (arith, c.type_inv.rewriting (c.args.at + 3), c.type_inv.rewriting (c.args.at + 4))
-
-pub returns-then-rewriting-from : goal.returns-then-rewriting-from
-returns-then-rewriting-from c = back_cut c.args.rewriting.now c.args.at _ (omega arith) (omega arith) c.if-rewriting-from.true
+pub returns-then-words-size : goal.returns-then-words-size
+returns-then-words-size c =
+    rw (← take_rest c.args.rewriting.now (c.args.at + 3)) (back_cut _ _ _ c.from-size.result c.in-len2-up.len_at_least (omega arith) (simp (length-take, length-drop) (omega (arith, c.if-words-size.true))))
 
 pub returns : goal.returns
-returns c = back-there c.args.rewriting.now c.args.at _ (omega arith) (omega arith) c.if-rewriting-from.false
+returns c =
+    rw (← take_rest c.args.rewriting.now (c.args.at + 3)) (back-there _ _ _ c.from-size.result c.in-len2-up.len_at_least (omega arith) (simp (length-take, length-drop) (omega (arith, c.if-words-size.false))))

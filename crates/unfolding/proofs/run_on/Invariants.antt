@@ -4,9 +4,9 @@ use lib.ListN.{drop}
 use Rattle.unfolding.proofs.Running.{Going}
 use Rattle.unfolding.proofs.run_on.Given as goal
 
-abbrev pub invariant-loop-number : goal.invariant-loop-number
-invariant-loop-number l =
+abbrev pub invariant-loop-stop : goal.invariant-loop-stop
+invariant-loop-stop l =
     Going l.tables l.limit l.allowance (drop l.front l.initial.words) l.initial.list l.list l.words l.old l.start l.state l.allowed l.used
 
-abbrev pub decreases-loop-number : goal.decreases-loop-number
-decreases-loop-number l = l.allowed
+abbrev pub decreases-loop-stop : goal.decreases-loop-stop
+decreases-loop-stop l = l.allowed

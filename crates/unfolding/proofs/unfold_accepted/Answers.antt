@@ -59,8 +59,8 @@ store-size-requires c =
     let r = c.run_on-last in
     rw (part_is r.new.words r.result.front r.ensures.given.long) (kept_storable a.a.now a.b.now a.limit (drop r.result.front r.new.words) r.new.old r.result.state c.requires.1 r.ensures.given.kept)
 
-pub returns-then-number-eq0 : goal.returns-then-number-eq0
-returns-then-number-eq0 c =
+pub returns-in-None : goal.returns-in-None
+returns-in-None c =
     let a = c.args in
     let p = c.requires in
     let d = c.copy_in in
@@ -69,10 +69,10 @@ returns-then-number-eq0 c =
     let s = c.store-size in
     let stored : Stored a.a.now a.b.now s.new.a s.new.b r.result.state (drop r.result.front r.new.words) r.new.old s.result = rw (part_is r.new.words r.result.front r.ensures.given.long) at s.ensures in
     settle_finished a.tables.now a.limit a.allowance a.plan.now _ a.list.now z.new.dst r.new.list r.new.words r.new.old r.result a.a.now a.b.now s.new.a s.new.b s.result
-    (put a.tables.now a.limit a.plan.now d.new.dst (short a.plan.now a.a.now a.b.now a.limit p.1 p.2) d.ensures.0 d.auto.dst p.0 p.2).0 z.auto.dst r.ensures stored c.if-number-eq0.true
+    (put a.tables.now a.limit a.plan.now d.new.dst (short a.plan.now a.a.now a.b.now a.limit p.1 p.2) d.ensures.0 d.auto.dst p.0 p.2).0 z.auto.dst r.ensures stored c.in-None.is
 
-pub returns : goal.returns
-returns c =
+pub returns-in-Some : goal.returns-in-Some
+returns-in-Some c =
     let a = c.args in
     let p = c.requires in
     let d = c.copy_in in
@@ -80,5 +80,6 @@ returns c =
     let r = c.run_on-last in
     let s = c.store-size in
     let stored : Stored a.a.now a.b.now s.new.a s.new.b r.result.state (drop r.result.front r.new.words) r.new.old s.result = rw (part_is r.new.words r.result.front r.ensures.given.long) at s.ensures in
-    settle_stopped a.tables.now a.limit a.allowance a.plan.now _ a.list.now z.new.dst r.new.list r.new.words r.new.old r.result a.a.now a.b.now s.new.a s.new.b s.result
-    (put a.tables.now a.limit a.plan.now d.new.dst (short a.plan.now a.a.now a.b.now a.limit p.1 p.2) d.ensures.0 d.auto.dst p.0 p.2).0 z.auto.dst r.ensures stored c.if-number-eq0.false
+    rw c.number.ensures
+    (settle_stopped a.tables.now a.limit a.allowance a.plan.now _ a.list.now z.new.dst r.new.list r.new.words r.new.old r.result a.a.now a.b.now s.new.a s.new.b s.result
+    (put a.tables.now a.limit a.plan.now d.new.dst (short a.plan.now a.a.now a.b.now a.limit p.1 p.2) d.ensures.0 d.auto.dst p.0 p.2).0 z.auto.dst r.ensures stored c.in-Some.stop c.in-Some.is)

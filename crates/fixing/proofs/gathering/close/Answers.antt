@@ -1,4 +1,5 @@
 -- `fixing::gathering::close` meets its contract: what sorting and keeping leave in front of the part is linked and added up.
+use Rattle.std.proofs.Common.{rules}
 use Prim.Native.Nat.{suc}
 use mathlib.Core.Path.{◌≡◌, sym, ap, ◌∙◌}
 use lib.ListN.{get_or, take}
@@ -30,8 +31,10 @@ pub returns : goal.returns
 returns c =
     let s = c.args in
     let k = c.keep_once-count in
+    let order = by_chain s.words.now s.links.now s.sizes.now in
     -- what is kept
-    let front : take k.result k.new.entries ≡ kept s.words.now s.links.now s.sizes.now s.part.now = k.ensures.0 ∙ ap (λ l. once (by_chain s.words.now s.links.now s.sizes.now) l) c.sort.ensures in
+    let front : take k.result k.new.entries ≡ kept s.words.now s.links.now s.sizes.now s.part.now =
+    k.ensures.kept order (λ p q b h i e. search rules) ∙ ap (once order) (c.sort.ensures order (λ p q b h i e. search rules)) in
     record {
       tied = c.link.ensures ∙ ap (λ l. linked s.links.now s.ends.now l s.at) front;
       first = sym (get_or-take k.result k.new.entries 0 0 (omega arith)) ∙ ap (λ l. get_or l 0 0) front;

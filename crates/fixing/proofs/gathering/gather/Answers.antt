@@ -6,20 +6,19 @@ use native.Mathlib.Omega.{arith}
 use Rattle.fixing.proofs.gathering.gather.Goals as goal
 
 pub loop-i-init : goal.loop-i-init
-loop-i-init c = (omega arith, c.requires.6, nothing_gathered _ _ _ _ _ _ c.requires.1 c.requires.2 c.requires.3 c.requires.4 c.requires.5)
+loop-i-init c = record { room = c.requires.6; gathered = nothing_gathered _ _ _ _ _ _ c.requires.1 c.requires.2 c.requires.3 c.requires.4 c.requires.5 }
 
 pub take_word-stack-requires : goal.take_word-stack-requires
 take_word-stack-requires c =
     let v = c.loop-i.invariant in
-    (v.2, c.requires.0, c.loop-i-test.true, v.1)
+    (v.gathered, c.requires.0, c.loop-i-test.true, v.room)
 
 pub loop-i-preserved : goal.loop-i-preserved
 loop-i-preserved c =
     let w = c.take_word-stack in
-    (omega (arith, c.loop-i-test.true), w.auto.buffer ∙ c.loop-i.invariant.1, w.ensures)
+    record { room = w.auto.buffer ∙ c.loop-i.invariant.room; gathered = w.ensures }
 
 pub returns : goal.returns
 returns c =
     let l = c.loop-i in
-    subst (λ i. Gathered c.args.plan.now i l.links l.sizes l.ends l.entries l.starts l.stack.entries l.stack.parts)
-    (omega (arith, l.invariant.0, c.loop-i-test.false)) l.invariant.2
+    subst (λ i. Gathered c.args.plan.now i l.links l.sizes l.ends l.entries l.starts l.stack.entries l.stack.parts) (omega arith) l.invariant.gathered

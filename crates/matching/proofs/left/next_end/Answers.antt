@@ -4,7 +4,7 @@ use borrow.Author.Tests.{eq-eqb, ne_eqb, lt-ltb, le-ltb, le-leb, lt-leb}
 use Prim.Native.Nat.{◌-◌}
 use mathlib.Core.Path.{ap}
 use Rattle.matching.specs.Left.{next_of}
-use Rattle.matching.specs.declared.left.Moved.TheVariants.{To}
+use Rattle.std.specs.Prelude.{Some}
 use Rattle.matching.proofs.left.next_end.Goals as goal
 
 pub returns-then-end-eq0 : goal.returns-then-end-eq0
@@ -24,7 +24,7 @@ overflow_cast-result c = omega (arith, c.type_inv.starts (c.args.end - 1))
 
 pub returns-then-word-lt99 : goal.returns-then-word-lt99
 unfolding next_of
-returns-then-word-lt99 c = rw (ne_eqb _ _ c.if-end-eq0.false, le-ltb _ _ c.if-word-lt96.false, lt-ltb _ _ c.if-word-lt99.true) (ap To (c.requires.1.right _ (omega arith)))
+returns-then-word-lt99 c = rw (ne_eqb _ _ c.if-end-eq0.false, le-ltb _ _ c.if-word-lt96.false, lt-ltb _ _ c.if-word-lt99.true) (ap Some (c.requires.1.right _ (omega arith)))
 
 pub returns-then-byte-n : goal.returns-then-byte-n
 unfolding next_of

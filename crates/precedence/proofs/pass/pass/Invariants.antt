@@ -3,7 +3,4 @@ use Rattle.precedence.proofs.Turning.{Left}
 use Rattle.precedence.proofs.pass.pass.Given as goal
 
 abbrev pub invariant-loop-i : goal.invariant-loop-i
-invariant-loop-i l = Left l.n l.plan l.starts l.first l.second l.initial.seen l.seen l.at l.i
-
-abbrev pub decreases-loop-i : goal.decreases-loop-i
-decreases-loop-i l = l.i
+invariant-loop-i l = Left l.n l.plan l.starts l.first l.second l.initial.seen l.seen l.least l.i

@@ -1,5 +1,5 @@
 -- `stations::file::judge_form` meets its contract. The invariant: what is found from block i on is what is found at all.
-use Prim.Native.Nat.{◌≤◌, ◌-◌}
+use Prim.Native.Nat.{◌≤◌}
 use mathlib.Core.Path.{◌≡◌}
 use Rattle.stations.specs.File.{blocks, form_refusal}
 use Rattle.stations.proofs.Files.{found}
@@ -7,6 +7,3 @@ use Rattle.stations.proofs.file.judge_form.Given as goal
 
 abbrev pub invariant-loop-i : goal.invariant-loop-i
 invariant-loop-i l = (l.i ≤ blocks l.file) × (found l.file l.i ≡ form_refusal l.file)
-
-abbrev pub decreases-loop-i : goal.decreases-loop-i
-decreases-loop-i l = blocks l.file - l.i

@@ -1,48 +1,54 @@
 -- `texts::units::after_sum` meets its contract.
 use Prim.Native.Nat.{◌+◌}
-use mathlib.Core.Path.{◌≡◌, sym, ◌∙◌}
+use mathlib.Core.Path.{◌≡◌, refl, sym, ◌∙◌}
 use mathlib.Core.Bool.{true, false}
 use mathlib.Core.Option.{none, some}
 use lib.ListN.{drop}
+use Rattle.std.proofs.Common.{Err, rules}
 use Rattle.grammar.specs.Character.{closing, blank}
 use Rattle.texts.specs.Readers.{next_is, next_between, plain?}
-use Rattle.texts.proofs.Next.{found_sign, found_no_sign}
+use Rattle.texts.proofs.Next.{found_sign, found_no_sign, met, missing}
 use Rattle.texts.proofs.Endings.{wrong_in_sign, wrong_blank, wrong_sign, wrong_second-blank, sign-stands}
 use Rattle.texts.proofs.units.after_sum.Goals as goal
 
 pub returns-then-not-is_plain : goal.returns-then-not-is_plain
 returns-then-not-is_plain c =
-    let signed : plain? c.args.bracket ≡ false = sym c.is_plain.ensures ∙ c.if-not-is_plain.true in
-    -- what is next, by what the code found
-    let not_closed : let s = c.args in next_is closing (drop s.at s.text.now) ≡ false = sym c.next_is.ensures ∙ c.if-next_is.false in
-    wrong_in_sign c.args.text.now c.args.at c.args.bracket signed not_closed
+    let s = c.args in
+    let signed : plain? s.bracket ≡ false = sym c.is_plain.ensures ∙ c.if-not-is_plain.true in
+    let not_closed : next_is closing (drop s.at s.text.now) ≡ false = sym c.next_is.ensures ∙ c.if-next_is.false in
+    rw c.no_text.ensures (refl, wrong_in_sign s.text.now s.at s.bracket signed not_closed)
 
-pub returns-then-not-next_is : goal.returns-then-not-next_is
-returns-then-not-next_is c =
-    -- what is next, by what the code found
-    let not_closed : let s = c.args in next_is closing (drop s.at s.text.now) ≡ false = sym c.next_is.ensures ∙ c.if-next_is.false in
-    let no-blank : let s = c.args in next_is blank (drop s.at s.text.now) ≡ false = sym c.next_is-2.ensures ∙ c.if-not-next_is.true in
-    wrong_blank c.args.text.now c.args.at c.args.bracket not_closed no-blank
+pub returns-in_err-expect : goal.returns-in_err-expect
+returns-in_err-expect c =
+    let s = c.args in
+    let not_closed : next_is closing (drop s.at s.text.now) ≡ false = sym c.next_is.ensures ∙ c.if-next_is.false in
+    let gone = missing blank s.at s.text.now c.expect.ensures c.in_err-expect.was in
+    let e : c.from_residual.result ≡ Err c.in_err-expect.field-0.0 = search rules in
+    rw (e, gone.fault) (refl, wrong_blank s.text.now s.at s.bracket not_closed gone.none_there)
 
 pub returns-in_default : goal.returns-in_default
 returns-in_default c =
-    let plain : plain? c.args.bracket ≡ true = sym c.is_plain.ensures ∙ c.if-not-is_plain.false in
-    let a-blank : let s = c.args in next_is blank (drop s.at s.text.now) ≡ true = sym c.next_is-2.ensures ∙ c.if-not-next_is.false in
-    let no_sign : let s = c.args in next_between (drop (s.at + 1) s.text.now) ≡ none = found_no_sign _ (sym c.sign_at.ensures ∙ c.in_default.is) in
-    wrong_sign c.args.text.now c.args.at c.args.bracket plain a-blank no_sign
+    let s = c.args in
+    let plain : plain? s.bracket ≡ true = sym c.is_plain.ensures ∙ c.if-not-is_plain.false in
+    let a-blank = met blank s.at s.text.now c.expect.ensures c.in_ok-expect.was in
+    let no_sign : next_between (drop (s.at + 1) s.text.now) ≡ none = found_no_sign _ (sym c.sign_at.ensures ∙ c.in_default.is) in
+    rw c.no_text-in_default.ensures (refl, wrong_sign s.text.now s.at s.bracket plain a-blank no_sign)
 
-pub returns-then-next_is-2 : goal.returns-then-next_is-2
-returns-then-next_is-2 c =
-    let plain : plain? c.args.bracket ≡ true = sym c.is_plain.ensures ∙ c.if-not-is_plain.false in
-    let a-blank : let s = c.args in next_is blank (drop s.at s.text.now) ≡ true = sym c.next_is-2.ensures ∙ c.if-not-next_is.false in
-    let a-sign : let s = c.args in next_between (drop (s.at + 1) s.text.now) ≡ some c.in-Sign.sign = found_sign _ (sym c.sign_at.ensures ∙ c.in-Sign.is) in
-    let second-blank : let s = c.args in next_is blank (drop (s.at + 2) s.text.now) ≡ true = sym c.next_is-3.ensures ∙ c.if-next_is-2.true in
-    sign-stands c.args.text.now c.args.at c.args.bracket _ plain a-blank a-sign second-blank
+pub returns-in_err-expect-2 : goal.returns-in_err-expect-2
+returns-in_err-expect-2 c =
+    let s = c.args in
+    let plain : plain? s.bracket ≡ true = sym c.is_plain.ensures ∙ c.if-not-is_plain.false in
+    let a-blank = met blank s.at s.text.now c.expect.ensures c.in_ok-expect.was in
+    let a-sign : next_between (drop (s.at + 1) s.text.now) ≡ some c.in-Some.sign = found_sign _ (sym c.sign_at.ensures ∙ c.in-Some.is) in
+    let gone = missing blank (s.at + 2) s.text.now c.expect-2.ensures c.in_err-expect-2.was in
+    let e : c.from_residual-in_err-expect-2.result ≡ Err c.in_err-expect-2.field-0.0 = search rules in
+    rw (e, gone.fault) (refl, wrong_second-blank s.text.now s.at s.bracket _ plain a-blank a-sign gone.none_there)
 
-pub returns-else-next_is-2 : goal.returns-else-next_is-2
-returns-else-next_is-2 c =
-    let plain : plain? c.args.bracket ≡ true = sym c.is_plain.ensures ∙ c.if-not-is_plain.false in
-    let a-blank : let s = c.args in next_is blank (drop s.at s.text.now) ≡ true = sym c.next_is-2.ensures ∙ c.if-not-next_is.false in
-    let a-sign : let s = c.args in next_between (drop (s.at + 1) s.text.now) ≡ some c.in-Sign.sign = found_sign _ (sym c.sign_at.ensures ∙ c.in-Sign.is) in
-    let no-second-blank : let s = c.args in next_is blank (drop (s.at + 2) s.text.now) ≡ false = sym c.next_is-3.ensures ∙ c.if-next_is-2.false in
-    wrong_second-blank c.args.text.now c.args.at c.args.bracket _ plain a-blank a-sign no-second-blank
+pub returns : goal.returns
+returns c =
+    let s = c.args in
+    let plain : plain? s.bracket ≡ true = sym c.is_plain.ensures ∙ c.if-not-is_plain.false in
+    let a-blank = met blank s.at s.text.now c.expect.ensures c.in_ok-expect.was in
+    let a-sign : next_between (drop (s.at + 1) s.text.now) ≡ some c.in-Some.sign = found_sign _ (sym c.sign_at.ensures ∙ c.in-Some.is) in
+    let second = met blank (s.at + 2) s.text.now c.expect-2.ensures c.in_ok-expect-2.was in
+    sign-stands s.text.now s.at s.bracket _ plain a-blank a-sign second

@@ -12,25 +12,28 @@ use Rattle.texts.proofs.units.begin.Goals as goal
 
 pub returns-then-next_is : goal.returns-then-next_is
 returns-then-next_is c =
-    let a-tee : let s = c.args in next_is tee (drop s.at s.text.now) ≡ true = sym c.next_is.ensures ∙ c.if-next_is.true in
-    rw c.open.ensures (begins-priority c.args.n c.args.depth c.args.text.now c.args.at c.requires a-tee)
-
-pub returns-in-Value-numeral_at : goal.returns-in-Value-numeral_at
-returns-in-Value-numeral_at c =
-    let an-aitch : let s = c.args in next_is aitch (drop s.at s.text.now) ≡ true = sym c.next_is-2.ensures ∙ c.if-next_is-2.true in
-    let a-set : let s = c.args in next_numeral 7 (drop (s.at + 1) s.text.now) ≡ some c.in-Value-numeral_at.set = found_value _ (sym c.numeral_at-then-next_is-2.ensures ∙ c.in-Value-numeral_at.is) in
-    rw c.open-in-Value-numeral_at.ensures (begins-set c.args.n c.args.depth c.args.text.now c.args.at _ c.requires an-aitch a-set)
+    let s = c.args in
+    let a-tee : next_is tee (drop s.at s.text.now) ≡ true = sym c.next_is.ensures ∙ c.if-next_is.true in
+    rw c.open.ensures (begins-priority s.n s.depth s.text.now s.at c.requires a-tee)
 
 pub returns-then-next_is-2 : goal.returns-then-next_is-2
 returns-then-next_is-2 c =
-    let an-aitch : let s = c.args in next_is aitch (drop s.at s.text.now) ≡ true = sym c.next_is-2.ensures ∙ c.if-next_is-2.true in
-    let no-set : let s = c.args in next_numeral 7 (drop (s.at + 1) s.text.now) ≡ none = found_none _ (sym c.numeral_at-then-next_is-2.ensures ∙ c.in_default-numeral_at.is) in
-    begins_no_set c.args.n c.args.depth c.args.text.now c.args.at c.requires an-aitch no-set
+    let s = c.args in
+    let an-aitch : next_is aitch (drop s.at s.text.now) ≡ true = sym c.next_is-2.ensures ∙ c.if-next_is-2.true in
+    let a-set : next_numeral 7 (drop (s.at + 1) s.text.now) ≡ some c.in-Some-numeral_at.set = found_value _ (sym c.numeral_at-then-next_is-2.ensures ∙ c.in-Some-numeral_at.is) in
+    rw c.open-then-next_is-2.ensures (begins-set s.n s.depth s.text.now s.at _ c.requires an-aitch a-set)
+
+pub returns-in_default-numeral_at : goal.returns-in_default-numeral_at
+returns-in_default-numeral_at c =
+    let s = c.args in
+    let an-aitch : next_is aitch (drop s.at s.text.now) ≡ true = sym c.next_is-2.ensures ∙ c.if-next_is-2.true in
+    let no-set : next_numeral 7 (drop (s.at + 1) s.text.now) ≡ none = found_none _ (sym c.numeral_at-then-next_is-2.ensures ∙ c.in_default-numeral_at.is) in
+    rw c.no_text.ensures (begins_no_set s.n s.depth s.text.now s.at c.requires an-aitch no-set)
 
 pub returns : goal.returns
 returns c =
-    let no_digit : let s = c.args in next_numeral 9 (drop s.at s.text.now) ≡ none = found_none _ (sym c.numeral_at.ensures ∙ c.in_default.is) in
-    let no-tee : let s = c.args in next_is tee (drop s.at s.text.now) ≡ false = sym c.next_is.ensures ∙ c.if-next_is.false in
-    let no-aitch : let s = c.args in next_is aitch (drop s.at s.text.now) ≡ false = sym c.next_is-2.ensures ∙ c.if-next_is-2.false in
-    rw c.open-2.ensures
-    (begins-plain c.args.n c.args.depth c.args.text.now c.args.at c.requires no_digit no-tee no-aitch)
+    let s = c.args in
+    let no_digit : next_numeral 9 (drop s.at s.text.now) ≡ none = found_none _ (sym c.numeral_at.ensures ∙ c.in_default.is) in
+    let no-tee : next_is tee (drop s.at s.text.now) ≡ false = sym c.next_is.ensures ∙ c.if-next_is.false in
+    let no-aitch : next_is aitch (drop s.at s.text.now) ≡ false = sym c.next_is-2.ensures ∙ c.if-next_is-2.false in
+    rw c.open-2.ensures (begins-plain s.n s.depth s.text.now s.at c.requires no_digit no-tee no-aitch)

@@ -4,6 +4,3 @@ use Rattle.walks.proofs.pass.pass.Given as goal
 
 abbrev pub invariant-loop-i : goal.invariant-loop-i
 invariant-loop-i l = Left l.n l.plan l.starts l.message l.initial.left l.initial.next l.left l.next l.finishes l.i
-
-abbrev pub decreases-loop-i : goal.decreases-loop-i
-decreases-loop-i l = l.i

@@ -1,9 +1,0 @@
--- The two cases of `||`.
-use borrow.Author.Tests.{eq-eqb, ne_eqb}
-use Rattle.tables.proofs.is_outside.Goals as goal
-
-pub returns-then-a-eq0 : goal.returns-then-a-eq0
-returns-then-a-eq0 c = record { whole = rw (eq-eqb _ _ c.if-a-eq0.true) }
-
-pub returns-else-a-eq0 : goal.returns-else-a-eq0
-returns-else-a-eq0 c = record { whole = rw (ne_eqb _ _ c.if-a-eq0.false) }
