@@ -20,7 +20,7 @@ pub struct Redex {
     pub z: u16,
     pub a: u8,
     pub b: u8,
-    pub set: u8,
+    pub set: u16,
 }
 
 // A right side put before the entries still to read: where it begins, and how many words it is written as.
@@ -115,7 +115,7 @@ pub fn put_side(
     let z = redex.z;
     let a = redex.a as u16;
     let b = redex.b as u16;
-    let s = redex.set as u16;
+    let s = redex.set;
     // A line for each law: alternatives side by side, as `7 | 8`, give their arm no fact that a proof can name.
     match redex.law {
         5 => put_entries(sizes, todo, at, &[x, z, 65, y, z, 65, 64]),

@@ -77,7 +77,7 @@ fn on_set(law: u8, set: u8, a: u8, x: u16, y: u16) -> Redex
         z: 0,
         a,
         b: 0,
-        set,
+        set: set as u16,
     }
 }
 
