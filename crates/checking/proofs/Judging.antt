@@ -1,6 +1,6 @@
 -- What is judged of the records of a rewriting, one record after another: what was found before, else what is found of this one, else of those behind.
 use Rattle.std.specs.Prelude.{Result, Ok, Err, ⊤, None}
-use Rattle.std.specs.Result.{result_and}
+use Rattle.std.specs.Result.{is_ok, result_and}
 use Prim.Native.Nat.{ℕ, suc, ◌+◌, ◌-◌, ◌≤◌, ◌<◌}
 use native.Mathlib.Numerals.{add-one}
 use native.Mathlib.Omega.{arith}
@@ -93,6 +93,15 @@ law-judged k i found r e p rs = rw (e, first_of_three found (law_refusal k i) (u
 pub left-judged : (n : ℕ) (left : List ℕ) (i : ℕ) (found r : Result ⊤ Refusal) → r ≡ result_and found (judged (carried_refusal n left i)) → LeftJudged n left i found r
 unfolding left_refusal
 left-judged n left i found r e m rs = rw (e, first_of_three found (carried_refusal n left i) (left_refusal n (i + 1) rs), add-one i) refl
+
+-- a left side is judged only where none was refused before it, and passed over otherwise
+pub left-first : (n : ℕ) (left : List ℕ) (i : ℕ) (found r : Result ⊤ Refusal) → is_ok found ≡ true → r ≡ judged (carried_refusal n left i) → LeftJudged n left i found r
+left-first n left i (Ok u) r o e m rs = left-judged n left i (Ok u) r e m rs
+left-first n left i (Err f) r o e m rs = cc
+
+pub left-behind : (n : ℕ) (left : List ℕ) (i : ℕ) (found : Result ⊤ Refusal) → is_ok found ≡ false → LeftJudged n left i found found
+left-behind n left i (Ok u) e m rs = cc
+left-behind n left i (Err f) e m rs = left-judged n left i (Err f) (Err f) refl m rs
 
 -- the records are judged up to a position: what is found from there on, or was found before, is what is found of all
 pub record JudgedTo (n : ℕ) (rewriting : List ℕ) (at step : ℕ) (unknown no_plan : Result ⊤ Refusal) : Type 0 where

@@ -75,8 +75,11 @@ fn judge_records(n: u8, rewriting: &[u8]) -> Result<(), Refusal>
                 at = next;
             }
             Record::Back { from, next, .. } => {
-                let refusal = Refusal::at(Reason::CarriedPlan, Place::Step(step));
-                no_plan = no_plan.and(judge_words_as(n, &rewriting[from..next], refusal));
+                // only the first that is no plan is told of, so none behind it is judged
+                if no_plan.is_ok() {
+                    let refusal = Refusal::at(Reason::CarriedPlan, Place::Step(step));
+                    no_plan = judge_words_as(n, &rewriting[from..next], refusal);
+                }
                 at = next;
             }
         }

@@ -5,8 +5,8 @@ use mathlib.Core.Path.{sym, ◌∙◌, ap}
 use Rattle.std.specs.Prelude.{Some}
 use Rattle.std.specs.Result.{result_and}
 use Rattle.rewritings.proofs.Reading.{BackRead, records-step, records-back}
-use Rattle.checking.proofs.Judging.{law-judged, left-judged, judged-step, judged-back, judged_cut, judged-all}
-use Rattle.checking.proofs.judge_records.Goals.{In-Back, in-Step, in-Back}
+use Rattle.checking.proofs.Judging.{law-judged, left-first, left-behind, judged-step, judged-back, judged_cut, judged-all}
+use Rattle.checking.proofs.judge_records.Goals.{In-Back, in-Step, in-Back+then-is_ok, in-Back+else-is_ok}
 use Rattle.checking.proofs.judge_records.Goals as goal
 
 back : (c : In-Back) → BackRead c.args.rewriting.now c.loop-record.at c.in-Back.law c.in-Back.place c.in-Back.from c.in-Back.next
@@ -27,7 +27,10 @@ loop-record-smaller c =
       | in-Step w ↦
           let r = records-step _ _ _ _ _ (ap Some (sym w.in-Step.is) ∙ c.in-Some.ensures) in
           omega (arith, w.at-is, r.after, r.within)
-      | in-Back w ↦
+      | in-Back+then-is_ok w ↦
+          let r = records-back _ _ _ _ _ _ (ap Some (sym w.in-Back.is) ∙ c.in-Some.ensures) in
+          omega (arith, w.at-is, r.after, r.words-there, r.within)
+      | in-Back+else-is_ok w ↦
           let r = records-back _ _ _ _ _ _ (ap Some (sym w.in-Back.is) ∙ c.in-Some.ensures) in
           omega (arith, w.at-is, r.after, r.words-there, r.within)
     ]
@@ -39,11 +42,15 @@ loop-record-preserved c =
           let r = records-step _ _ _ _ _ (ap Some (sym w.in-Step.is) ∙ c.in-Some.ensures) in
           let j = law-judged _ _ _ _ (w.and-unknown.ensures ∙ ap (result_and c.loop-record.unknown) w.judge_law.ensures) in
           rw (w.at-is, w.unknown-is, w.no_plan-is) (judged-step _ _ _ _ _ _ c.loop-record.invariant _ _ _ r _ j)
-      | in-Back w ↦
+      | in-Back+then-is_ok w ↦
           let r = records-back _ _ _ _ _ _ (ap Some (sym w.in-Back.is) ∙ c.in-Some.ensures) in
-          let e = rw w.at-refusal.ensures at w.judge_words_as.ensures in
-          let j = left-judged _ _ _ _ _ (w.and-no_plan.ensures ∙ ap (result_and c.loop-record.no_plan) e) in
+          let e = rw w.at-refusal.ensures at w.judge_words_as-no_plan.ensures in
+          let j = left-first _ _ _ _ _ (sym w.is_ok.ensures.value ∙ w.if-is_ok.true) e in
           rw (w.at-is, w.unknown-is, w.no_plan-is) (judged-back _ _ _ _ _ _ c.loop-record.invariant _ _ _ _ r _ j)
+      | in-Back+else-is_ok w ↦
+          let r = records-back _ _ _ _ _ _ (ap Some (sym w.in-Back.is) ∙ c.in-Some.ensures) in
+          let o = sym w.is_ok.ensures.value ∙ w.if-is_ok.false in
+          rw (w.at-is, w.unknown-is, w.no_plan-is) (judged-back _ _ _ _ _ _ c.loop-record.invariant _ _ _ _ r _ (left-behind _ _ _ _ o))
     ]
 
 pub returns-then-at-rewriting : goal.returns-then-at-rewriting
