@@ -157,17 +157,22 @@ module _ (n : ℕ) (rewriting : List ℕ) (at step : ℕ) (unknown no_plan : Res
     unfolding left_refusal
     found_lefts = rw none_left at g.lefts
 
-    pub judged-all : (r : Result ⊤ Refusal) → r ≡ result_and unknown no_plan → r ≡ judged (records_refusal n rewriting)
-    unfolding records_refusal
-    judged-all r e = rw (e, is_whole, ← found_laws, ← found_lefts) (both unknown no_plan)
-      where
-        both : (u l : Result ⊤ Refusal) → result_and u l ≡ judged (or_else (else_found u none) (else_found l none))
-        both (Ok x) (Ok y) = refl
-        both (Ok x) (Err f) = refl
-        both (Err f) l = refl
-
     pub judged_unknown : (f : Refusal) → unknown ≡ Err f → Err f ≡ judged (records_refusal n rewriting)
-    judged_unknown f e = judged-all (Err f) (rw e refl)
+    unfolding records_refusal
+    judged_unknown f e = rw (is_whole, ← found_laws, e) refl
 
     pub judged_lefts : unknown ≡ Ok tt → no_plan ≡ judged (records_refusal n rewriting)
-    judged_lefts e = judged-all no_plan (rw e refl)
+    unfolding records_refusal
+    judged_lefts e = rw (is_whole, ← found_laws, e, ← found_lefts) (stands no_plan)
+      where
+        stands : (j : Result ⊤ Refusal) → j ≡ judged (else_found j none)
+        stands (Ok x) = refl
+        stands (Err f) = refl
+
+    -- by what was found of the laws
+    pub judged-all : (r : Result ⊤ Refusal) → r ≡ result_and unknown no_plan → r ≡ judged (records_refusal n rewriting)
+    judged-all r e = go unknown refl
+      where
+        go : (u : Result ⊤ Refusal) → unknown ≡ u → r ≡ judged (records_refusal n rewriting)
+        go (Ok x) p = (rw p at e) ∙ judged_lefts p
+        go (Err f) p = (rw p at e) ∙ judged_unknown f p
