@@ -185,8 +185,9 @@ fn hand_over(bytes: &[u8], out: &mut [u8], size: &mut usize) -> u8
     if out.len() < bytes.len() {
         return 1;
     }
-    areas::put_whole(bytes, out);
-    *size = bytes.len();
+    let end = areas::copy_in(bytes, out, 0);
+    areas::clear_from(out, end);
+    *size = end;
     0
 }
 
