@@ -13,7 +13,8 @@ pub struct Progress {
     pub words: usize,
 }
 
-// Reads a sum: products with `+` between them, grouping to the left.
+// Reads a sum: products with `+` between them, grouping to the left. Inlined, as the product is: so a bracket takes one frame of the stack, not three.
+#[inline(always)]
 #[cycle(read_product_read_sum_read_unit)]
 fn read_sum(
     n: u8,
@@ -36,6 +37,7 @@ fn read_sum(
 
 // Reads a product: units with `.` between them, grouping to the left. It is its own function beside `read_sum`, as the grammar has both:
 // one over the two would need a further one that chooses what it reads.
+#[inline(always)]
 #[cycle(read_product_read_sum_read_unit)]
 fn read_product(
     n: u8,

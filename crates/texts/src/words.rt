@@ -19,7 +19,8 @@ pub fn store(word: u8, out: &mut [u8], words: usize) -> usize
     words + 1
 }
 
-// Puts the word that a bracket closes with behind `words` others: none for `(s)`; how many there are then.
+// Puts the word that a bracket closes with behind `words` others: none for `(s)`; how many there are then. Inlined: each bracket closes with it.
+#[inline(always)]
 #[tactic(auto, unfolding(plans::specs::Word::unary_word))]
 pub fn close(bracket: Bracket, out: &mut [u8], words: usize) -> usize
     requires { (words < 18446744073709551615) × SetSmall bracket }
