@@ -194,7 +194,12 @@ pub fn basic_words(n: u8, plan: &[u8]) -> bool
 fn count_word(plan: &[u8], word: u8) -> usize
     ensures { result ≡ occurrences word plan.now }
 {
-    plan.iter().filter(|byte| **byte == word).count()
+    // Each byte adds 0 or 1: with `filter` and `count` it would be a jump at each, which takes longer where they come without order.
+    let mut count = 0;
+    for &byte in plan {
+        count += usize::from(byte == word);
+    }
+    count
 }
 
 // How many paths of a plan are orders, and how many are stuck, 0 of both where it is not basic. A basic plan has one path more than signs of choice, and
