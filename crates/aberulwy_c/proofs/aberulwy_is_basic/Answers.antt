@@ -7,8 +7,9 @@ use Rattle.aberulwy_c.proofs.aberulwy_is_basic.Goals as goal
 
 pub returns-in-Ok : goal.returns-in-Ok
 returns-in-Ok c =
-    let all = basic-seen _ _ (said basic_report _ c.in-Ok.is c.is_basic.ensures.numbers) in
-    rw (c.from.ensures ∙ bit_of _) (record { whole = all.0; accepts = all.1 })
+    let set = rw (← (c.from.ensures ∙ bit_of c.in-Ok.is')) at (said basic_report _ c.in-Ok.is c.is_basic.ensures.numbers) in
+    let all = basic-seen _ _ set in
+    record { whole = all.0; accepts = all.1 }
 
 pub returns-in-Err : goal.returns-in-Err
 returns-in-Err c =
