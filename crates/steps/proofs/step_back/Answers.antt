@@ -1,6 +1,6 @@
 -- `steps::step_back` meets its contract: the word at the place is sought, the law is tried on the words carried, and these are put in.
 use native.Mathlib.Omega.{arith}
-use Prim.Native.Nat.{◌-◌, ◌≤◌, ◌<◌}
+use Prim.Native.Nat.{ℕ, ◌≤◌, ◌<◌}
 use mathlib.Core.Path.{◌≡◌, sym, ◌∙◌, ap}
 use mathlib.Core.List.{◌++◌}
 use mathlib.Core.Bool.{not}
@@ -10,7 +10,9 @@ use lib.Seq.{length-take-le}
 use Rattle.areas.specs.declared.StepState.{StepState}
 use Rattle.plans.proofs.Accepted.{accepted-length}
 use Rattle.laws.proofs.Backward.{back-past, back-accepted}
-use Rattle.steps.specs.Working.{Same, start_here}
+use Rattle.rewritings.specs.Roots.{law_term}
+use Rattle.matching.specs.Tried.{gives}
+use Rattle.steps.specs.Working.{Same, start_here, words_here}
 use Rattle.steps.proofs.Making.{start-before}
 use Rattle.steps.proofs.Answering.{answer-past, answer-fails, answer, Here, sought-here}
 use Rattle.steps.proofs.Backing.{back_none, back_some, same_before}
@@ -51,6 +53,12 @@ there c r m =
     let a = c.args in
     same_before a.tables.now a.left.now a.starts.now a.right.now d.new.left d.new.starts d.new.right c.law_gives.new.side a.state c.in_ok-there.there m
     (c.law_gives.auto.side ∙ r)
+
+-- the law was tried on the words of the subplan there
+tried : (c : After-law_gives)
+    → c.law_gives.result ≡ gives (law_term c.args.tables.now c.args.n c.args.law c.args.carried.now)
+    (words_here c.seek_within.new.left c.seek_within.new.starts c.in_ok-there.there)
+tried c = rw (← c.from-start.ensures) c.law_gives.ensures
 
 pub seek_within-requires : goal.seek_within-requires
 seek_within-requires c = (c.requires.n_value.0, few (goal.at.seek_within-requires c).Start, c.requires.working.0)
@@ -97,11 +105,7 @@ law_gives-requires c =
     let p = goal.at.law_gives-requires c in
     let n = c.requires.n_value in
     let f = found p.In_ok-there in
-    let d = c.seek_within in
-    let s = c.in_ok-there.there in
-    let start = start_here d.new.starts s in
-    rw c.from-start.ensures
-    (n.2, n.3, few p.Start, n.4, omega (arith, room p.In_ok-there, f.same.working.held.apart, length-take (s.read - start) (drop start d.new.left)))
+    (n.2, n.3, few p.Start, n.4, omega (arith, room p.In_ok-there, f.same.working.held.apart, length-take {A = ℕ}))
 
 pub returns-then-not-law_gives : goal.returns-then-not-law_gives
 returns-then-not-law_gives c =
@@ -115,7 +119,7 @@ returns-then-not-law_gives c =
     let m = there p.After-law_gives (room p.In_ok-there) f.same in
     answer-fails a.tables.now _ a.limit a.left.now a.starts.now a.right.now a.old.now a.state d.new.left d.new.starts _ s m
     (back_none a.tables.now n.1 a.law a.place a.carried.now a.left.now a.starts.now a.right.now a.state a.n n.0 n.4 d.new.left d.new.starts _ s m f.at_place f.inside
-    l.result (rw c.from-start.ensures at l.ensures) (ap not c.if-not-law_gives.true))
+    l.result (tried p.After-law_gives) (ap not c.if-not-law_gives.true))
 
 pub put_words-requires : goal.put_words-requires
 put_words-requires c =
@@ -141,7 +145,7 @@ returns c =
     let m = there p.After-law_gives (room p.In_ok-there) f.same in
     let e =
     back_some a.tables.now n.1 a.law a.place a.carried.now a.left.now a.starts.now a.right.now a.state a.n n.0 n.4 d.new.left d.new.starts _ s m f.at_place f.inside
-    l.result (rw c.from-start.ensures at l.ensures) (ap not c.if-not-law_gives.false) in
+    l.result (tried p.After-law_gives) (ap not c.if-not-law_gives.false) in
     answer a.tables.now _ a.limit a.left.now a.starts.now a.right.now a.old.now a.state d.new.left d.new.starts _ s m
     a.carried.now e w.new.right w.new.old w.result w.ensures (omega (arith, f.at_place)) c.requires.limit_le_most_words.0 c.requires.working.1
     (λ h. back-accepted a.tables.now n.1 a.law a.place a.carried.now _ _ (rw (← n.0) n.4) c.requires.working.0.accepted e h) _ c.ok_or.ensures.value
