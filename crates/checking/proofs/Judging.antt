@@ -94,14 +94,14 @@ pub left-judged : (n : ℕ) (left : List ℕ) (i : ℕ) (found r : Result ⊤ Re
 unfolding left_refusal
 left-judged n left i found r e m rs = rw (e, first_of_three found (carried_refusal n left i) (left_refusal n (i + 1) rs), add-one i) refl
 
--- a left side is judged only where none was refused before it, and passed over otherwise
-pub left-first : (n : ℕ) (left : List ℕ) (i : ℕ) (found r : Result ⊤ Refusal) → is_ok found ≡ true → r ≡ judged (carried_refusal n left i) → LeftJudged n left i found r
-left-first n left i (Ok u) r o e m rs = left-judged n left i (Ok u) r e m rs
-left-first n left i (Err f) r o e m rs = cc
+-- one that is judged only where nothing was found before, and passed over otherwise
+pub and_first : (found r q : Result ⊤ Refusal) → is_ok found ≡ true → r ≡ q → r ≡ result_and found q
+and_first (Ok u) r q o e = e
+and_first (Err f) r q o e = cc
 
-pub left-behind : (n : ℕ) (left : List ℕ) (i : ℕ) (found : Result ⊤ Refusal) → is_ok found ≡ false → LeftJudged n left i found found
-left-behind n left i (Ok u) e m rs = cc
-left-behind n left i (Err f) e m rs = left-judged n left i (Err f) (Err f) refl m rs
+pub and_behind : (found q : Result ⊤ Refusal) → is_ok found ≡ false → found ≡ result_and found q
+and_behind (Ok u) q o = cc
+and_behind (Err f) q o = refl
 
 -- the records are judged up to a position: what is found from there on, or was found before, is what is found of all
 pub record JudgedTo (n : ℕ) (rewriting : List ℕ) (at step : ℕ) (unknown no_plan : Result ⊤ Refusal) : Type 0 where

@@ -71,7 +71,9 @@ fn judge_records(n: u8, rewriting: &[u8]) -> Result<(), Refusal>
     while let Some(record) = rewritings::record_at(rewriting, at) {
         match record {
             Record::Step { law, next, .. } => {
-                unknown = unknown.and(judge_law(law, step));
+                if unknown.is_ok() {
+                    unknown = judge_law(law, step);
+                }
                 at = next;
             }
             Record::Back { from, next, .. } => {
