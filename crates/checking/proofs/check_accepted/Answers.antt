@@ -1,4 +1,6 @@
 -- `check_accepted` meets its contract: the plan loaded is ready for the replay, what the replay leaves can be stored, and the end is compared.
+use Rattle.std.specs.Prelude.{Ok, Err}
+use Rattle.std.proofs.Common.{rules}
 use Prim.Native.Nat.{ℕ, ◌-◌, ◌≤◌}
 use native.Mathlib.Omega.{arith}
 use mathlib.Core.Path.{◌≡◌, refl, sym, ◌∙◌, ap}
@@ -68,13 +70,6 @@ store-size-requires c =
     rw (c.last_state-read.ensures, parts c.replay_on-replayed.ensures.working)
     (kept_storable c.args.a.now c.args.b.now _ _ _ _ c.requires.1 c.replay_on-replayed.ensures.kept)
 
-pub returns-in-Err : goal.returns-in-Err
-returns-in-Err c =
-    let l = c.load-state.ensures in
-    rw (c.number-number.ensures, c.last_state-read.ensures)
-    (settle_stopped _ _ _ _ _ _ _ _ _ _ _ _ _ _ _ _ _ (loaded-plan _ _ _ _ l.0 l.1) (loaded-before _ _ _ _ l.0 l.1 _) c.replay_on-replayed.ensures
-    (stored (goal.at.returns-in-Err c).After-store-size) _ c.in-Err.is)
-
 pub reached-requires : goal.reached-requires
 reached-requires c =
     let short = c.replay_on-replayed.ensures.kept.short in
@@ -87,9 +82,10 @@ pub returns-then-reached : goal.returns-then-reached
 returns-then-reached c =
     let l = c.load-state.ensures in
     let r = rw c.last_state-read.ensures at c.reached.ensures in
+    let made : c.replay_on-replayed.result ≡ Ok (state_of c.replay_on-replayed.result) = search rules in
     rw c.last_state-read.ensures
     (settle_same _ _ _ _ _ _ _ _ _ _ _ _ _ _ _ _ _ (loaded-plan _ _ _ _ l.0 l.1) (loaded-before _ _ _ _ l.0 l.1 _) c.replay_on-replayed.ensures
-    (stored (goal.at.returns-then-reached c).After-store-size) _ c.in_default.is (sym r ∙ c.if-reached.true))
+    (stored (goal.at.returns-then-reached c).After-store-size) _ made (sym r ∙ c.if-reached.true))
 
 pub returns : goal.returns
 returns c =
@@ -98,3 +94,11 @@ returns c =
     rw c.last_state-read.ensures
     (settle_differs _ _ _ _ _ _ _ _ _ _ _ _ _ _ _ _ _ (loaded-plan _ _ _ _ l.0 l.1) (loaded-before _ _ _ _ l.0 l.1 _) c.replay_on-replayed.ensures
     (stored (goal.at.returns c).After-store-size) _ c.in_default.is (sym r ∙ c.if-reached.false))
+
+pub returns-in-Err : goal.returns-in-Err
+returns-in-Err c =
+    let l = c.load-state.ensures in
+    let not_made : c.replay_on-replayed.result ≡ Err c.in-Err.stopped = search rules in
+    rw (c.number-number.ensures, c.last_state-read.ensures)
+    (settle_stopped _ _ _ _ _ _ _ _ _ _ _ _ _ _ _ _ _ (loaded-plan _ _ _ _ l.0 l.1) (loaded-before _ _ _ _ l.0 l.1 _) c.replay_on-replayed.ensures
+    (stored (goal.at.returns-in-Err c).After-store-size) _ not_made)
